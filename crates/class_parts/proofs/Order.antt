@@ -1,5 +1,5 @@
 -- Where pairs are sorted by their keys, those of one key stand side by side.
-use Rattle.std.proofs.Common.{Ordering, ◌≡◌, ℕ, List, false, sym, subst, arith}
+use Rattle.std.proofs.Common.{Ordering, ◌≡◌, ◌≤◌, ◌<◌, ℕ, List, length, false, sym, subst, arith}
 use Rattle.std.specs.Ordering.{nat_cmp, is_lt, ordering_then}
 use Rattle.std.specs.Cmp.{IsTotalOrder}
 use Rattle.std.specs.List.Sorted.{IsSortedByKey}
@@ -7,7 +7,7 @@ use Rattle.std.proofs.lemmas.Bool.Decides.{nat_tests}
 use Rattle.std.proofs.lemmas.Cmp.{nat_cmp_total, on_total, then_total}
 use Rattle.std.proofs.lemmas.List.Sorted.{ranks_by, sorted_far}
 use Rattle.class_parts.specs.declared.pairs.Pair.{Pair}
-use Rattle.class_parts.specs.Steps.{AreTogether, key_of, key_at}
+use Rattle.class_parts.specs.Steps.{AreInOrder, AreTogether, key_of, key_at, number_at}
 
 abbrev pub key_cmp : ℕ × ℕ → ℕ × ℕ → Ordering
 key_cmp a b = ordering_then (nat_cmp a.0 b.0) (nat_cmp a.1 b.1)
@@ -27,3 +27,12 @@ together ps sorted i j k l m n e =
     let up = far i j (record { position = 0; class = 0; place = 0 }) l (omega arith) in
     let down = far j k (record { position = 0; class = 0; place = 0 }) m n in
     one_key (key_at ps j) (key_at ps i) up (subst (λ a. is_lt (key_cmp a (key_at ps j)) ≡ false) (sym e) down)
+
+-- .. and where places are in the order of their numbers, those of one number do
+pub ordered_together : (numbers order : List ℕ) → AreInOrder numbers order → (i j k : ℕ) → i ≤ j → j ≤ k
+    → k < length order → number_at numbers order i ≡ number_at numbers order k
+    → number_at numbers order j ≡ number_at numbers order i
+ordered_together numbers order sorted i j k l m n e =
+    let up = sorted i j l (omega arith) in
+    let down = sorted j k m n in
+    omega arith

@@ -36,6 +36,14 @@ pub record IsPartedByPairs (old new : Layout) (ps : List Pair) : Type 0 where
   pub parts : (x z : ℕ) → x < size old → z < size old → (class_in new x ≡ class_in new z)
       ↔ ((class_in old x ≡ class_in old z) × HaveSamePairs ps x z)
 
+-- each class is parted by numbers that its places have
+pub record IsPartedByNumbers (old new : Layout) (numbers : List ℕ) : Type 0 where
+  pub laid : IsLaid new
+  pub finer : IsFiner old new
+  pub settled : NoneIsChosen new
+  pub parts : (x z : ℕ) → x < size old → z < size old → (class_in new x ≡ class_in new z)
+      ↔ ((class_in old x ≡ class_in old z) × (slice_index numbers x ≡ slice_index numbers z))
+
 -- x is one of the first i numbers, or of all
 abbrev pub IsAmongFirst : List ℕ → ℕ → ℕ → Type 0
 IsAmongFirst xs i x = (k : ℕ) × (k < i) × (slice_index xs k ≡ x)

@@ -1,11 +1,13 @@
 //! Parting classes.
 
-ghost use Rattle.std.specs.Prelude.{◌<◌, OnOk, length};
-ghost use Rattle.std.specs.List.{All};
+ghost use Rattle.std.specs.Prelude.{◌≡◌, ◌<◌, IfOk, OnOk, length};
+ghost use Rattle.std.specs.List.{All, range_with_len};
+ghost use Rattle.std.specs.List.Sorted.{IsPermutation};
 ghost use Rattle.class_parts.specs.Laid.{IsLaid, size, count, NoneIsChosen};
-ghost use Rattle.class_parts.specs.Parted.{IsPartedByPairs};
+ghost use Rattle.class_parts.specs.Parted.{ArePlaces, IsPartedByNumbers, IsPartedByPairs};
 ghost use Rattle.class_parts.specs.Steps.{
   AreChosen,
+  AreInOrder,
   AreTogether,
   Chooses,
   ChoosesAll,
@@ -17,10 +19,11 @@ ghost use Rattle.class_parts.specs.Steps.{
 ghost use Rattle.class_parts.specs.Views.{layout};
 
 use crate::exchange::{exchange, write_at};
+use crate::numbered::in_order;
 use crate::pairs::Pair;
 use crate::parts::Parts;
-use crate::runs::run_end;
-use std::alloc::AllocError;
+use crate::runs::{number_end, run_end};
+use std::alloc::{AllocError, Global};
 
 impl Parts {
     /// Chooses a place.
@@ -87,46 +90,48 @@ impl Parts {
         Ok(())
     }
 
-    /// Chooses the places of pairs.
-    fn choose_all(&mut self, pairs: &[Pair])
+    /// Chooses places.
+    fn choose_all(&mut self, places: &[u32])
         requires laid { IsLaid (layout self.old) }
-        requires places { All (λ pair. pair.place < size (layout self.old)) pairs.now }
-        ensures { ChoosesAll (layout self.old) (layout self.new) (places_of pairs.now) (length pairs.now) }
+        requires places { ArePlaces (size (layout self.old)) places.now }
+        ensures { ChoosesAll (layout self.old) (layout self.new) places.now (length places.now) }
     {
-        for pair in pairs {
-            self.choose(pair.place);
+        for place in places {
+            self.choose(*place);
         }
     }
 
-    /// Parts the chosen places, which are those of these pairs, from the others of their classes.
-    fn part_chosen(&mut self, pairs: &[Pair]) -> Result<(), AllocError>
+    /// Parts the chosen places, which are these, from the others of their classes.
+    fn part_chosen(&mut self, places: &[u32]) -> Result<(), AllocError>
         requires laid { IsLaid (layout self.old) }
-        requires places { All (λ pair. pair.place < size (layout self.old)) pairs.now }
-        requires chosen { AreChosen (layout self.old) (places_of pairs.now) }
-        ensures { OnOk result (IsPartedBy (layout self.old) (layout self.new) (places_of pairs.now)) }
+        requires places { ArePlaces (size (layout self.old)) places.now }
+        requires chosen { AreChosen (layout self.old) places.now }
+        ensures { OnOk result (IsPartedBy (layout self.old) (layout self.new) places.now) }
     {
-        for pair in pairs {
-            let class = self.class[pair.place as usize];
+        for place in places {
+            let class = self.class[*place as usize];
             self.part(class)?;
         }
         Ok(())
     }
 
-    /// Parts each class into the places of these pairs and the others, in time by the number of these.
-    fn part_by(&mut self, pairs: &[Pair]) -> Result<(), AllocError>
+    /// Parts each class into these places and the others, in time by the number of these.
+    fn part_by(&mut self, places: &[u32]) -> Result<(), AllocError>
         requires laid { IsLaid (layout self.old) }
-        requires places { All (λ pair. pair.place < size (layout self.old)) pairs.now }
+        requires places { ArePlaces (size (layout self.old)) places.now }
         requires settled { NoneIsChosen (layout self.old) }
-        ensures { OnOk result (IsPartedBy (layout self.old) (layout self.new) (places_of pairs.now)) }
+        ensures { OnOk result (IsPartedBy (layout self.old) (layout self.new) places.now) }
     {
-        self.choose_all(pairs);
-        self.part_chosen(pairs)
+        self.choose_all(places);
+        self.part_chosen(places)
     }
 
-    /// Parts each class by the keys that its places have, one key after the other.
-    fn part_by_runs(&mut self, pairs: &[Pair]) -> Result<(), AllocError>
+    /// Parts each class by the keys that its places have, one key after the other. These are the places of
+    /// the pairs.
+    fn part_by_runs(&mut self, pairs: &[Pair], places: &[u32]) -> Result<(), AllocError>
         requires laid { IsLaid (layout self.old) }
         requires settled { NoneIsChosen (layout self.old) }
+        requires each { places.now ≡ places_of pairs.now }
         requires places { All (λ pair. pair.place < size (layout self.old)) pairs.now }
         requires together { AreTogether pairs.now }
         ensures { OnOk result (IsPartedByPairs (layout self.old) (layout self.new) pairs.now) }
@@ -134,7 +139,7 @@ impl Parts {
         let mut at = 0;
         while at < pairs.len() {
             let end = run_end(pairs, at);
-            self.part_by(&pairs[at..end])?;
+            self.part_by(&places[at..end])?;
             at = end;
         }
         Ok(())
@@ -146,7 +151,7 @@ impl Parts {
     /// An old class keeps its number for some of its places; the others are in classes of new numbers. It takes
     /// time by the number of pairs and its logarithm. `AllocError` comes where memory runs out; the partition is
     /// of no use then.
-    pub fn part_by_pairs(&mut self, pairs: Vec<Pair>) -> Result<(), AllocError>
+    pub fn part_by_pairs(&mut self, alloc: Global, pairs: Vec<Pair>) -> Result<(), AllocError>
         requires laid { IsLaid (layout self.old) }
         requires settled { NoneIsChosen (layout self.old) }
         requires places { All (λ pair. pair.place < size (layout self.old)) pairs.items }
@@ -154,6 +159,52 @@ impl Parts {
     {
         let mut pairs = pairs;
         pairs.sort_unstable_by_key(|pair| (pair.class, pair.position));
-        self.part_by_runs(&pairs)
+        let places = places_of(alloc, &pairs)?;
+        self.part_by_runs(&pairs, &places)
     }
+
+    /// Parts each class by the numbers of its places, which stand in the order of these.
+    fn part_in_order(&mut self, numbers: &[u32], order: &[u32]) -> Result<(), AllocError>
+        requires laid { IsLaid (layout self.old) }
+        requires settled { NoneIsChosen (layout self.old) }
+        requires each { length numbers.now ≡ size (layout self.old) }
+        requires places { IsPermutation (range_with_len 0 (length numbers.now)) order.now }
+        requires order { AreInOrder numbers.now order.now }
+        ensures { OnOk result (IsPartedByNumbers (layout self.old) (layout self.new) numbers.now) }
+    {
+        let mut at = 0;
+        while at < order.len() {
+            let end = number_end(numbers, order, at);
+            self.part_by(&order[at..end])?;
+            at = end;
+        }
+        Ok(())
+    }
+
+    /// Parts each class by numbers that all places have: two places stay in one class exactly where they were in
+    /// one and their numbers are equal.
+    ///
+    /// Classes keep and get their numbers as those that are parted by pairs do. It takes time by the number of places,
+    /// where the numbers are below it, else by its logarithm too. `AllocError` comes where memory runs out; the
+    /// partition is of no use then.
+    pub fn part_by_numbers(&mut self, alloc: Global, numbers: &[u32]) -> Result<(), AllocError>
+        requires laid { IsLaid (layout self.old) }
+        requires settled { NoneIsChosen (layout self.old) }
+        requires each { length numbers.now ≡ size (layout self.old) }
+        ensures { OnOk result (IsPartedByNumbers (layout self.old) (layout self.new) numbers.now) }
+    {
+        let order = in_order(alloc, numbers)?;
+        self.part_in_order(numbers, &order)
+    }
+}
+
+/// The places of pairs.
+fn places_of(alloc: Global, pairs: &[Pair]) -> Result<Vec<u32>, AllocError>
+    ensures { IfOk result (λ v. v.items ≡ places_of pairs.now) }
+{
+    let mut places = Vec::with_capacity(alloc, pairs.len())?;
+    for pair in pairs {
+        places.push(pair.place)?;
+    }
+    Ok(places)
 }

@@ -1,7 +1,7 @@
-//! Pairs of one key, side by side.
+//! Pairs of one key, and places of one number, side by side.
 
-ghost use Rattle.std.specs.Prelude.{◌≡◌, ◌<◌, ◌≤◌, ◌↔◌, ℕ, true, length};
-ghost use Rattle.class_parts.specs.Steps.{key_of, key_at};
+ghost use Rattle.std.specs.Prelude.{◌≡◌, ◌<◌, ◌≤◌, ◌↔◌, ℕ, true, length, slice_index};
+ghost use Rattle.class_parts.specs.Steps.{key_of, key_at, number_at};
 
 use crate::pairs::Pair;
 
@@ -22,6 +22,25 @@ pub(crate) fn run_end(pairs: &[Pair], at: usize) -> usize
 {
     let mut end = at + 1;
     while end < pairs.len() && have_one_key(pairs[end], pairs[at]) {
+        end += 1;
+    }
+    end
+}
+
+/// Where the places end that have the number of the place at an index.
+pub(crate) fn number_end(numbers: &[u32], order: &[u32], at: usize) -> usize
+    requires inside { at < length order.now }
+    requires places { (k : ℕ) → k < length order.now → slice_index order.now k < length numbers.now }
+    ensures later { at < result }
+    ensures within { result ≤ length order.now }
+    ensures same { (k : ℕ) → k < result → at ≤ k
+        → number_at numbers.now order.now k ≡ number_at numbers.now order.now at }
+    ensures end { result < length order.now
+        → number_at numbers.now order.now result ≡ number_at numbers.now order.now at → ⊥ }
+{
+    let number = numbers[order[at] as usize];
+    let mut end = at + 1;
+    while end < order.len() && numbers[order[end] as usize] == number {
         end += 1;
     }
     end

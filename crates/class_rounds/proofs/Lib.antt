@@ -1,5 +1,5 @@
 pub mod Searching
 pub mod Gathering
-pub mod Keyed
+pub mod Parting
 pub mod Turns
 pub mod Unique

@@ -1,5 +1,5 @@
 -- What the code computes; no promise stands here.
-use Rattle.std.specs.Prelude.{◌≡◌, ℕ, ◌<◌, ◌≤◌, ◌↔◌, ◌⊎◌, List, length, slice_index}
+use Rattle.std.specs.Prelude.{◌≡◌, ℕ, ◌<◌, ◌≤◌, ◌↔◌, ◌⊎◌, List, slice_index}
 use Rattle.std.specs.List.{All, Contains}
 use Rattle.class_parts.specs.declared.pairs.Pair.{Pair}
 use Rattle.class_parts.specs.Laid.{Layout, size, class_in, IsLaid, NoneIsChosen}
@@ -35,11 +35,6 @@ pub record Gathers (edges : List Edge) (p groups : Layout) (low high : ℕ) (ps 
       × (t : ℕ) × (t < size p) × (class_in p t ≡ c) × HasEdge edges x i t
   pub complete : (x i t : ℕ) → t < size p → low ≤ class_in p t → class_in p t < high → HasEdge edges x i t
       → (IsAlone groups x → ⊥) → HasPair ps (class_in p t) i x
-
--- each index with its number, in place of a class, at position 0
-pub record AreKeyed (numbers : List ℕ) (ps : List Pair) : Type 0 where
-  pub sound : (c i x : ℕ) → HasPair ps c i x → (x < length numbers) × (slice_index numbers x ≡ c) × (i ≡ 0)
-  pub complete : (x : ℕ) → x < length numbers → HasPair ps (slice_index numbers x) 0 x
 
 -- where x refers to a class below `low`, z refers to it too, or to one from `low` on
 abbrev pub AgreeBelow : List Edge → Layout → ℕ → ℕ → ℕ → Type 0

@@ -5,12 +5,10 @@ ghost use Rattle.class_parts.specs.Laid.{IsLaid, size, count, NoneIsChosen};
 ghost use Rattle.class_parts.specs.Views.{layout};
 ghost use Rattle.class_rounds.specs.Edges.{AreEdges, ReferAlike};
 ghost use Rattle.class_rounds.specs.Rounds.{IsRefined, IsStarted};
-ghost use Rattle.class_rounds.specs.Steps.{AreKeyed, IsFirstRound, IsRound};
+ghost use Rattle.class_rounds.specs.Steps.{IsFirstRound, IsRound};
 
 use crate::edges::Edges;
 use crate::gather::{gather, is_alone};
-use class_parts::groups::in_groups;
-use class_parts::pairs::Pair;
 use class_parts::parts::Parts;
 use std::alloc::{AllocError, Global};
 
@@ -111,9 +109,8 @@ fn first_round(
 {
     let high = class_count(parts);
     let pairs = gather(alloc, parts, parts, edges, high.min(1), high)?;
-    let shapes = keyed(alloc, shapes)?;
-    parts.part_by_pairs(shapes)?;
-    parts.part_by_pairs(pairs)
+    parts.part_by_numbers(alloc, shapes)?;
+    parts.part_by_pairs(alloc, pairs)
 }
 
 /// A later round: only references to classes from `low` on count, which are those of the round before. Answers how
@@ -128,24 +125,6 @@ fn next_round(alloc: Global, parts: &mut Parts, edges: &Edges, low: u32) -> Resu
     let high = class_count(parts);
     let pairs = gather(alloc, parts, parts, edges, low, high)?;
     let gathered = pairs.len() as u64;
-    parts.part_by_pairs(pairs)?;
+    parts.part_by_pairs(alloc, pairs)?;
     Ok(gathered)
-}
-
-/// Each index with its number as its key, in place of a class. Those of one number stand side by side,
-/// so that little is left to sort.
-fn keyed(alloc: Global, numbers: &[u32]) -> Result<Vec<Pair>, AllocError>
-    requires { length numbers.now < 4294967296 }
-    ensures { IfOk result (λ ps. AreKeyed numbers.now ps.items) }
-{
-    let places = in_groups(alloc, numbers)?;
-    let mut pairs = Vec::with_capacity(alloc, numbers.len())?;
-    for place in &places {
-        pairs.push(Pair {
-            position: 0,
-            class: numbers[*place as usize],
-            place: *place,
-        })?;
-    }
-    Ok(pairs)
 }

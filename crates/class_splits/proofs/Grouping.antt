@@ -10,7 +10,7 @@ use Rattle.class_rounds.specs.declared.edges.Edge.{Edge}
 use Rattle.class_rounds.specs.Edges.{AgreeAt, AreEdges}
 use Rattle.class_rounds.specs.Rounds.{IsStarted, OneClass}
 use Rattle.class_rounds.specs.Steps.{AgreeBelow, Gathers}
-use Rattle.class_rounds.proofs.Keyed.{agree_self, pairs_agree}
+use Rattle.class_rounds.proofs.Parting.{agree_self, pairs_agree}
 use Rattle.class_rounds.proofs.Turns.{agree_map}
 use Rattle.class_splits.specs.ComputedWalk.{IsBegun, IsGrouped, IsRun, IsSettled, IsStep, IsTried, MovesHaveGround, MovesHaveGrounds, Stands, StayWhole}
 use Rattle.class_splits.specs.Grounds.{StandForOne}

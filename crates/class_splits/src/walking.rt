@@ -44,7 +44,7 @@ fn begin(alloc: Global, numbers: &[u32], run: &[Pair]) -> Result<Parts, AllocErr
     ensures { IfOk result (λ p. IsBegun numbers.now run.now (layout p)) }
 {
     let mut parts = start(alloc, numbers)?;
-    parts.part_by_pairs(run.to_vec(alloc)?)?;
+    parts.part_by_pairs(alloc, run.to_vec(alloc)?)?;
     Ok(parts)
 }
 
@@ -57,14 +57,14 @@ fn class_count(parts: &Parts) -> u32
 }
 
 /// Whether no group is parted by some pairs.
-fn stay_whole(groups: &mut Parts, pairs: Vec<Pair>) -> Result<bool, AllocError>
+fn stay_whole(alloc: Global, groups: &mut Parts, pairs: Vec<Pair>) -> Result<bool, AllocError>
     requires laid { IsLaid (layout groups.old) }
     requires settled { NoneIsChosen (layout groups.old) }
     requires places { All (λ pair. pair.place < size (layout groups.old)) pairs.items }
     ensures { IfOk result (λ b. IsTried pairs.items (layout groups.old) (layout groups.new) b) }
 {
     let before = groups.count();
-    groups.part_by_pairs(pairs)?;
+    groups.part_by_pairs(alloc, pairs)?;
     Ok(groups.count() == before)
 }
 
@@ -84,7 +84,7 @@ fn part_groups(
 {
     let high = class_count(labels);
     let pairs = gather(alloc, labels, groups, edges, low, high)?;
-    groups.part_by_pairs(pairs)
+    groups.part_by_pairs(alloc, pairs)
 }
 
 /// Whether no group is parted by the pairs of a round. If so, labels are parted by these, and groups by new labels.
@@ -102,11 +102,11 @@ fn step(
     ensures { IfOk result (λ b. IsStep edges.now run.now (layout labels.old) (layout labels.new)
         (layout groups.old) (layout groups.new) b) }
 {
-    if !stay_whole(groups, run.to_vec(alloc)?)? {
+    if !stay_whole(alloc, groups, run.to_vec(alloc)?)? {
         return Ok(false);
     }
     let low = class_count(labels);
-    labels.part_by_pairs(run.to_vec(alloc)?)?;
+    labels.part_by_pairs(alloc, run.to_vec(alloc)?)?;
     part_groups(alloc, labels, groups, edges, low)?;
     Ok(true)
 }

@@ -3,9 +3,9 @@ use Rattle.std.proofs.Common.{◌≡◌, Bool, true, false, List, ℕ, Option, i
 use Rattle.command_line.specs.Commands.{AsksCheck, AsksPlain, AsksShrink, AsksVerify}
 use Rattle.command_line.proofs.Asking.{asked_once, checked_once}
 use Rattle.files.specs.Stores.{Stored}
-use Rattle.commands.specs.CommandLines.{IsDevices, Runs}
-use Rattle.commands.specs.Endings.{Output}
-use Rattle.commands.specs.Merges.{MakesSmaller, asked_choice}
+use Rattle.commands.specs.CommandLines.{IsDevices, Runs, written_at}
+use Rattle.commands.specs.Endings.{Exit}
+use Rattle.commands.specs.Merges.{MakesSmaller, Writers, asked_choice}
 use Rattle.commands.specs.Runs.{RunsCheck, RunsPlain}
 use Rattle.commands.specs.Verifies.{RunsVerify}
 use Rattle.commands.proofs.CheckRuns.{check_device, check_says}
@@ -19,16 +19,16 @@ use Rattle.commands.proofs.Words.{apart, check_word, merged_once, plain_word}
 abbrev Text : Type 0
 Text = List ℕ
 
-module _ {W : Type 0} (held : W → Option (List ℕ)) (has_failed : W → Bool) (words : List Text) (files : List ℕ → Stored)
+module _ (writers : Writers) (words : List Text) (files : List ℕ → Stored)
     (holds : List ℕ → Option (List ℕ))
-    (out out' err err' : Output) (status : ℕ) where
+    (exit : Exit) where
   abbrev Is : Type 0
-  Is = Runs held has_failed words files holds out out' err err' status
+  Is = Runs writers words files holds exit
 
   -- the path that is asked for is the only one
-  pub plain_asked : Is → (path : Text) → AsksPlain words path → RunsPlain (files path) out out' err err' status
+  pub plain_asked : Is → (path : Text) → AsksPlain words path → RunsPlain (files path) exit
   plain_asked (inl (found, asks, does)) path other =
-      subst (λ p. RunsPlain (files p) out out' err err' status) (asked_once words found path asks other) does
+      subst (λ p. RunsPlain (files p) exit) (asked_once words found path asks other) does
   plain_asked (inr (inl (s, f, asks, does))) path other =
       apart words (codes "plain") (codes "check") refl refl (plain_word words path other) (check_word words s f asks)
   plain_asked (inr (inr (inl m))) path other = apart words (codes "plain") (codes "shrink") refl refl
@@ -40,13 +40,13 @@ module _ {W : Type 0} (held : W → Option (List ℕ)) (has_failed : W → Bool)
 
   -- so are those of the schema and of the file
   pub check_asked : Is → (schema file : Text) → AsksCheck words schema file
-      → RunsCheck (files schema) (files file) out out' err err' status
+      → RunsCheck (files schema) (files file) exit
   check_asked (inl (found, asks, does)) schema file other = apart words (codes "check") (codes "plain") refl refl
       (check_word words schema file other) (plain_word words found asks)
   check_asked (inr (inl (s, f, asks, does))) schema file other =
       let same = checked_once words s f schema file asks other in
-      subst (λ p. RunsCheck (files p) (files file) out out' err err' status) same.0
-      (subst (λ p. RunsCheck (files s) (files p) out out' err err' status) same.1 does)
+      subst (λ p. RunsCheck (files p) (files file) exit) same.0
+      (subst (λ p. RunsCheck (files s) (files p) exit) same.1 does)
   check_asked (inr (inr (inl m))) schema file other = apart words (codes "check") (codes "shrink") refl refl
       (check_word words schema file other)
       (shrink_word words m.schema m.file m.output m.certificate m.merge m.strict m.asks)
@@ -55,8 +55,8 @@ module _ {W : Type 0} (held : W → Option (List ℕ)) (has_failed : W → Bool)
   check_asked (inr (inr (inr (inr (none, said))))) schema file other = absurd (none.1 schema file other)
 
   abbrev Makes : Text → Text → Text → Text → Option Text → Bool → Type 0
-  Makes s f o c m t = MakesSmaller held has_failed (asked_choice m) t (files s) (files f) (files o).contents (holds o)
-      (files c).contents (holds c) out out' err err' status
+  Makes s f o c m t = MakesSmaller writers (asked_choice m) t (files s) (files f)
+      (written_at files holds o) (written_at files holds c) exit
 
   makes_same : (s f o c s' f' o' c' : Text) (m m' : Option Text) (t t' : Bool)
       → (s ≡ s') × (f ≡ f') × (o ≡ o') × (c ≡ c') × (m ≡ m') × (t ≡ t') → Makes s f o c m t → Makes s' f' o' c' m' t'
@@ -84,7 +84,7 @@ module _ {W : Type 0} (held : W → Option (List ℕ)) (has_failed : W → Bool)
   shrink_asked (inr (inr (inr (inr (none, said))))) s f o c m t other = absurd (none.2 s f o c m t other)
 
   abbrev Verified : Text → Text → Text → Text → Option Text → Type 0
-  Verified s f o c m = RunsVerify (asked_choice m) (files s) (files f) (files o) (files c) out out' err err' status
+  Verified s f o c m = RunsVerify (asked_choice m) (files s) (files f) (files o) (files c) exit
 
   verified_same : (s f o c s' f' o' c' : Text) (m m' : Option Text)
       → (s ≡ s') × (f ≡ f') × (o ≡ o') × (c ≡ c') × (m ≡ m') × (false ≡ false) → Verified s f o c m
@@ -111,22 +111,21 @@ module _ {W : Type 0} (held : W → Option (List ℕ)) (has_failed : W → Bool)
   verify_asked (inr (inr (inr (inr (none, said))))) s f o c m other = absurd (none.3 s f o c m other)
 
   -- what is said of the outputs
-  pub says : Is → SaysAs out out' err err' status
-  says (inl (path, asks, does)) = plain_says (files path) out out' err err' status does
-  says (inr (inl (schema, file, asks, does))) = check_says (files schema) (files file) out out' err err' status does
-  says (inr (inr (inl r))) = smaller_says held has_failed (asked_choice r.merge) r.strict (files r.schema)
-      (files r.file) (files r.output).contents (holds r.output) (files r.certificate).contents (holds r.certificate) out
-      out' err err' status r.makes
+  pub says : Is → SaysAs exit
+  says (inl (path, asks, does)) = plain_says (files path) exit does
+  says (inr (inl (schema, file, asks, does))) = check_says (files schema) (files file) exit does
+  says (inr (inr (inl r))) = smaller_says writers (asked_choice r.merge) r.strict (files r.schema)
+      (files r.file) (written_at files holds r.output) (written_at files holds r.certificate) exit r.makes
   says (inr (inr (inr (inl (s, f, o, c, m, asks, does))))) =
-      verify_says (asked_choice m) (files s) (files f) (files o) (files c) out out' err err' status does
-  says (inr (inr (inr (inr (none, (refusal, calls, r)))))) = refused_says refusal out out' err err' status r
+      verify_says (asked_choice m) (files s) (files f) (files o) (files c) exit does
+  says (inr (inr (inr (inr (none, (refusal, calls, r)))))) = refused_says refusal exit r
 
-  pub device : Is → status ≡ 4 → IsDevices has_failed words files out out' err err'
-  device (inl (path, asks, does)) = plain_device has_failed words files path out out' err err' status asks does
+  pub device : Is → exit.status ≡ 4 → IsDevices writers words files exit
+  device (inl (path, asks, does)) = plain_device writers words files path exit asks does
   device (inr (inl (schema, file, asks, does))) =
-      check_device has_failed words files schema file out out' err err' status asks does
-  device (inr (inr (inl r))) = shrink_device held has_failed words files holds out out' err err' status r
+      check_device writers words files schema file exit asks does
+  device (inr (inr (inl r))) = shrink_device writers words files holds exit r
   device (inr (inr (inr (inl (s, f, o, c, m, asks, does))))) =
-      verify_device has_failed words files s f o c m (asked_choice m) out out' err err' status asks does
+      verify_device writers words files s f o c m (asked_choice m) exit asks does
   device (inr (inr (inr (inr (none, (refusal, calls, r)))))) =
-      refused_device has_failed words files refusal out out' err err' status r
+      refused_device writers words files refusal exit r

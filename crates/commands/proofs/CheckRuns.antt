@@ -22,11 +22,12 @@ use Rattle.files.specs.declared.fault.Role.TheVariants as roles
 use Rattle.command_line.specs.declared.usage.Refusal.{Refusal}
 use Rattle.command_line.specs.declared.usage.Refusal.TheVariants.{Memory}
 use Rattle.commands.specs.CommandLines.{IsDevices}
-use Rattle.commands.specs.Endings.{EndsAs, Output, on_output}
+use Rattle.commands.specs.Endings.{EndsAs, Exit, on_output}
 use Rattle.commands.specs.Faults.{fault_ending}
+use Rattle.commands.specs.Merges.{Writers}
 use Rattle.commands.specs.Runs.{Refuses, RunsCheck, check_ending}
 use Rattle.commands.specs.Statuses.{findings_status, report_status}
-use Rattle.commands.proofs.Endings.{IsFit, SaysAs, ends_among, ends_by_devices, ends_say, wanted_of}
+use Rattle.commands.proofs.Endings.{IsFit, OneFailed, SaysAs, ends_among, ends_by_devices, ends_say, wanted_of}
 use Rattle.commands.proofs.FaultEndings.{fault_fit, file_can, schema_can}
 
 -- the status for findings is that of a run that was done
@@ -40,19 +41,19 @@ pub check_fit : (outcome : Result Report Fault) → IsFit (check_ending outcome)
 check_fit (Ok report) = found_fit report.findings.items report.rule_findings.items
 check_fit (Err fault) = fault_fit fault
 
-pub check_says : (schema file : Stored) (out out' err err' : Output) (status : ℕ)
-    → RunsCheck schema file out out' err err' status → SaysAs out out' err err' status
-check_says schema file out out' err err' status r =
-    ends_say (check_ending r.outcome) out out' err err' status (check_fit r.outcome) r.ends
+pub check_says : (schema file : Stored) (exit : Exit)
+    → RunsCheck schema file exit → SaysAs exit
+check_says schema file exit r =
+    ends_say (check_ending r.outcome) exit (check_fit r.outcome) r.ends
 
 -- ---- the schema
 
 -- it isn't read to its end
-pub unread_check : (T : Type 0) (schema file : Stored) (out out' err err' : Output) (status : ℕ) (e : ReadFault) (f : Fault)
+pub unread_check : (T : Type 0) (schema file : Stored) (exit : Exit) (e : ReadFault) (f : Fault)
     → f ≡ unread roles.Schema e → (e ≡ reads.TooLarge → IsBeyond (2 ^ 40) schema.contents)
-    → IfSome schema.fails (DeviceFailsAs {T = T} (Err e)) → EndsAs (fault_ending f) out out' err err' status
-    → RunsCheck schema file out out' err err' status
-unread_check T schema file out out' err err' status e f is beyond told ends = record {
+    → IfSome schema.fails (DeviceFailsAs {T = T} (Err e)) → EndsAs (fault_ending f) exit
+    → RunsCheck schema file exit
+unread_check T schema file exit e f is beyond told ends = record {
   outcome = Err f;
   checks = unread-schema schema.contents file.contents e f is beyond;
   schema_fails = unread_schema Report e f is T schema.fails told;
@@ -61,12 +62,12 @@ unread_check T schema file out out' err err' status e f is beyond told ends = re
 }
 
 -- it is, and this is answered to its text
-pub read_check : (schema file : Stored) (left : Option (List ℕ)) (text : List ℕ) (out out' err err' : Output) (status : ℕ)
+pub read_check : (schema file : Stored) (left : Option (List ℕ)) (text : List ℕ) (exit : Exit)
     (outcome : Result Report Fault) → ReadsWhole schema.contents left text
     → IfSome schema.fails (λ each. false ≡ each) → Checks (Some text) file.contents outcome
     → is_device roles.Schema outcome ≡ false → IfSome file.fails (FileFailsAs outcome)
-    → EndsAs (check_ending outcome) out out' err err' status → RunsCheck schema file out out' err err' status
-read_check schema file left text out out' err err' status outcome whole told checks fine file_told ends = record {
+    → EndsAs (check_ending outcome) exit → RunsCheck schema file exit
+read_check schema file left text exit outcome whole told checks fine file_told ends = record {
   outcome = outcome;
   checks = of-schema-source schema.contents file.contents text (gives schema.contents left text whole) outcome checks;
   schema_fails = schema_read schema.fails outcome fine told;
@@ -83,11 +84,11 @@ found_no_device found broken is = elim (found_fit found broken) [
 ]
 
 -- a report is printed, with its status
-pub report_ends : (report : Report) (wanted : ℕ) (out out' err err' : Output) (status : ℕ) → wanted ≡ report_status report
-    → EndsAs (on_output (report_text report) wanted) out out' err err' status
-    → EndsAs (check_ending (Ok report)) out out' err err' status
-report_ends report wanted out out' err err' status is ends =
-    subst (λ n. EndsAs (on_output (report_text report) n) out out' err err' status) is ends
+pub report_ends : (report : Report) (wanted : ℕ) (exit : Exit) → wanted ≡ report_status report
+    → EndsAs (on_output (report_text report) wanted) exit
+    → EndsAs (check_ending (Ok report)) exit
+report_ends report wanted exit is ends =
+    subst (λ n. EndsAs (on_output (report_text report) n) exit) is ends
 
 -- a source has failed, by the answer
 abbrev pub IsOfSource : Result Report Fault → Type 0
@@ -111,34 +112,33 @@ check_wanted schema file (Err (faults.Device roles.Output written)) h = absurd h
 check_wanted schema file (Err (faults.Device roles.Certificate written)) h = absurd h
 check_wanted schema file (Err faults.Memory) h = inr (λ no. omega (arith, no))
 
-pub check_devices : (schema file : Stored) (out out' err err' : Output) (status : ℕ)
-    → (r : RunsCheck schema file out out' err err' status) → status ≡ 4 → out.has_failed ≡ false
-    → err.has_failed ≡ false → IsOfSource r.outcome ⊎ ((out'.has_failed ≡ true) ⊎ (err'.has_failed ≡ true))
-check_devices schema file out out' err err' status r is fresh clean =
+pub check_devices : (schema file : Stored) (exit : Exit)
+    → (r : RunsCheck schema file exit) → exit.status ≡ 4 → exit.out.before.has_failed ≡ false
+    → exit.err.before.has_failed ≡ false → IsOfSource r.outcome ⊎ OneFailed exit
+check_devices schema file exit r is fresh clean =
     ends_by_devices (IsOfSource r.outcome) (check_ending r.outcome)
-    out out' err err' status r.ends (check_wanted schema.contents file.contents r.outcome r.checks) is fresh clean
+    exit r.ends (check_wanted schema.contents file.contents r.outcome r.checks) is fresh clean
 
 -- where the status is a device's, a source has failed, by the answer, or an output
-pub one_failed : (schema file : Option (List ℕ)) (outcome : Result Report Fault) (out out' err err' : Output) (status : ℕ)
+pub one_failed : (schema file : Option (List ℕ)) (outcome : Result Report Fault) (exit : Exit)
     (s f : Bool) → Checks schema file outcome → s ≡ is_device roles.Schema outcome → f ≡ is_device roles.File outcome
-    → EndsAs (check_ending outcome) out out' err err' status → status ≡ 4 → out.has_failed ≡ false
-    → err.has_failed ≡ false → (s ≡ true) ⊎ (f ≡ true) ⊎ (out'.has_failed ≡ true) ⊎ (err'.has_failed ≡ true)
-one_failed schema file outcome out out' err err' status s f checks es ef ends is fresh clean =
-    elim (ends_by_devices (IsOfSource outcome) (check_ending outcome) out out' err err' status ends
+    → EndsAs (check_ending outcome) exit → exit.status ≡ 4 → exit.out.before.has_failed ≡ false
+    → exit.err.before.has_failed ≡ false → (s ≡ true) ⊎ (f ≡ true) ⊎ OneFailed exit
+one_failed schema file outcome exit s f checks es ef ends is fresh clean =
+    elim (ends_by_devices (IsOfSource outcome) (check_ending outcome) exit ends
     (check_wanted schema file outcome checks) is fresh clean) [
       | inl (inl e) ↦ inl (es ∙ e)
       | inl (inr e) ↦ inr (inl (ef ∙ e))
-      | inr (inl e) ↦ inr (inr (inl e))
-      | inr (inr e) ↦ inr (inr (inr e))
+      | inr failed ↦ inr (inr failed)
     ]
 
-pub check_device : {W : Type 0} (has_failed : W → Bool) (words : List (List ℕ)) (files : List ℕ → Stored)
+pub check_device : (writers : Writers) (words : List (List ℕ)) (files : List ℕ → Stored)
     (schema file : List ℕ)
-    (out out' err err' : Output) (status : ℕ) → AsksCheck words schema file
-    → RunsCheck (files schema) (files file) out out' err err' status → status ≡ 4
-    → IsDevices has_failed words files out out' err err'
-check_device has_failed words files schema file out out' err err' status asks r is = λ fresh clean.
-    elim (check_devices (files schema) (files file) out out' err err' status r is fresh clean) [
+    (exit : Exit) → AsksCheck words schema file
+    → RunsCheck (files schema) (files file) exit → exit.status ≡ 4
+    → IsDevices writers words files exit
+check_device writers words files schema file exit asks r is = λ fresh clean.
+    elim (check_devices (files schema) (files file) exit r is fresh clean) [
       | inl (inl met) ↦ inr (inr (inr (inl (
         schema,
         file,
@@ -172,10 +172,10 @@ schema_wanted (Err (faults.Certificate refusal)) is = absurd (true≢false (sym 
 schema_wanted (Err (faults.Device role written)) is = inl refl
 schema_wanted (Err faults.Memory) is = inr refl
 
-pub schema_failed : (schema file : Stored) (out out' err err' : Output) (status : ℕ)
-    → RunsCheck schema file out out' err err' status → schema.fails ≡ Some true → (status ≡ 4) ⊎ (status ≡ 5)
-schema_failed schema file out out' err err' status r is =
-    ends_among DeviceOrMemory (check_ending r.outcome) out out' err err' status r.ends
+pub schema_failed : (schema file : Stored) (exit : Exit)
+    → RunsCheck schema file exit → schema.fails ≡ Some true → (exit.status ≡ 4) ⊎ (exit.status ≡ 5)
+schema_failed schema file exit r is =
+    ends_among DeviceOrMemory (check_ending r.outcome) exit r.ends
     (schema_wanted r.outcome (subst (λ o. IfSome o (SchemaFailsAs r.outcome)) is r.schema_fails)) (inl refl)
 
 -- the schema's fault comes first
@@ -196,24 +196,24 @@ file_wanted schema file (Err (faults.Certificate refusal)) h is = absurd h
 file_wanted schema file (Err (faults.Device role written)) h is = inr (inl refl)
 file_wanted schema file (Err faults.Memory) h is = inr (inr refl)
 
-pub checked_failed : (schema file : Stored) (out out' err err' : Output) (status : ℕ)
-    → RunsCheck schema file out out' err err' status → file.fails ≡ Some true
-    → (status ≡ 2) ⊎ (status ≡ 4) ⊎ (status ≡ 5)
-checked_failed schema file out out' err err' status r is =
-    ends_among TextOrDevice (check_ending r.outcome) out out' err err' status r.ends
+pub checked_failed : (schema file : Stored) (exit : Exit)
+    → RunsCheck schema file exit → file.fails ≡ Some true
+    → (exit.status ≡ 2) ⊎ (exit.status ≡ 4) ⊎ (exit.status ≡ 5)
+checked_failed schema file exit r is =
+    ends_among TextOrDevice (check_ending r.outcome) exit r.ends
     (file_wanted schema.contents file.contents r.outcome r.checks (subst (λ o. IfSome o (FileFailsAs r.outcome)) is r.file_fails)) (inr (inl refl))
 
 -- ---- what was refused
 
-pub memory_checks : (refusal : Refusal) (schema file : Stored) (out out' err err' : Output) (status : ℕ)
-    → refusal ≡ Memory → Refuses refusal out out' err err' status
-    → RunsCheck schema file out out' err err' status
-memory_checks refusal schema file out out' err err' status is refuses = record {
+pub memory_checks : (refusal : Refusal) (schema file : Stored) (exit : Exit)
+    → refusal ≡ Memory → Refuses refusal exit
+    → RunsCheck schema file exit
+memory_checks refusal schema file exit is refuses = record {
   outcome = Err faults.Memory;
   checks = tt;
   schema_fails = no_schema_told schema.fails;
   file_fails = no_file_told file.fails;
-  ends = subst (λ m. Refuses m out out' err err' status) is refuses;
+  ends = subst (λ m. Refuses m exit) is refuses;
 }
   where
     no_schema_told : (o : Option Bool) → IfSome o (SchemaFailsAs {T = Report} (Err faults.Memory))

@@ -8,52 +8,55 @@ use Rattle.files.specs.Lines.{line_of}
 use Rattle.files.specs.declared.fault.Role.TheVariants as roles
 use Rattle.files.specs.declared.fault.FileFault.{FileFault}
 use Rattle.files.specs.declared.fault.FileFault.TheVariants as faults
-use Rattle.commands.specs.Endings.{AppendsFront, Closes, Ending, Ends, EndsAs, Output, Prints, Tells, on_both, on_error, on_output}
+use Rattle.commands.specs.Endings.{AppendsFront, Closes, Ending, Ends, EndsAs, Exit, IsUntouched, Output, OutputState, Prints, Tells, on_both, on_error, on_output}
 use Rattle.commands.specs.Statuses.{IsStatus, fault_status}
 
 -- ---- one output
 
-pub failed_twice : {A : Type 0} (old new : Output) → new ≡ old → old.has_failed ≡ false → new.has_failed ≡ true → A
-failed_twice old new same fresh fails =
-    absurd (true≢false (sym fails ∙ ap (λ (o : Output). o.has_failed) same ∙ fresh))
+pub failed_twice : {A : Type 0} (out : Output) → IsUntouched out → out.before.has_failed ≡ false
+    → out.after.has_failed ≡ true → A
+failed_twice out same fresh fails =
+    absurd (true≢false (sym fails ∙ ap (λ (o : OutputState). o.has_failed) same ∙ fresh))
 
 keeps_self : (held : Option (List ℕ)) → Keeps held held
 keeps_self None = tt
 keeps_self (Some xs) = refl
 
-pub keeps_same : (old new : Output) → new ≡ old → Keeps old.held new.held
-keeps_same old new same = subst (λ (o : Output). Keeps old.held o.held) (sym same) (keeps_self old.held)
+pub keeps_same : (out : Output) → IsUntouched out → Keeps out.before.held out.after.held
+keeps_same out same =
+    subst (λ (o : OutputState). Keeps out.before.held o.held) (sym same) (keeps_self out.before.held)
 
 -- ---- one text
 
-abbrev Sent : Bool → Output → Output → List ℕ → ℕ → ℕ → Type 0
-Sent fails old new text wanted status = MatchBool fails ((status ≡ 4) × AppendsFront old.held new.held text)
-    ((status ≡ wanted) × Appends old.held new.held text)
+abbrev Sent : Bool → Output → List ℕ → ℕ → ℕ → Type 0
+Sent fails out text wanted status = MatchBool fails
+    ((status ≡ 4) × AppendsFront out.before.held out.after.held text)
+    ((status ≡ wanted) × Appends out.before.held out.after.held text)
 
 -- the status is the one that is wanted, or a device's
-pub status_printed : (old new : Output) (text : List ℕ) (wanted status : ℕ) → Prints old new text wanted status
+pub status_printed : (out : Output) (text : List ℕ) (wanted status : ℕ) → Prints out text wanted status
     → (status ≡ wanted) ⊎ (status ≡ 4)
-status_printed old new text wanted status p = go p.fails p.sent
+status_printed out text wanted status p = go p.fails p.sent
   where
-    go : (b : Bool) → Sent b old new text wanted status → (status ≡ wanted) ⊎ (status ≡ 4)
+    go : (b : Bool) → Sent b out text wanted status → (status ≡ wanted) ⊎ (status ≡ 4)
     go true s = inr s.0
     go false s = inl s.0
 
 -- where the output fails the status is a device's
-pub failure_printed : (old new : Output) (text : List ℕ) (wanted status : ℕ) → Prints old new text wanted status
-    → old.has_failed ≡ false → new.has_failed ≡ true → status ≡ 4
-failure_printed old new text wanted status p fresh fails = go p.fails (sym (p.told fresh) ∙ fails) p.sent
+pub failure_printed : (out : Output) (text : List ℕ) (wanted status : ℕ) → Prints out text wanted status
+    → out.before.has_failed ≡ false → out.after.has_failed ≡ true → status ≡ 4
+failure_printed out text wanted status p fresh fails = go p.fails (sym (p.told fresh) ∙ fails) p.sent
   where
-    go : (b : Bool) → b ≡ true → Sent b old new text wanted status → status ≡ 4
+    go : (b : Bool) → b ≡ true → Sent b out text wanted status → status ≡ 4
     go true e s = s.0
     go false e s = absurd (true≢false (sym e))
 
 -- where it is a device's, and another is wanted, the output has failed
-pub device_printed : (old new : Output) (text : List ℕ) (wanted status : ℕ) → Prints old new text wanted status
-    → (wanted ≡ 4 → ⊥) → status ≡ 4 → old.has_failed ≡ false → new.has_failed ≡ true
-device_printed old new text wanted status p other is fresh = go p.fails refl p.sent
+pub device_printed : (out : Output) (text : List ℕ) (wanted status : ℕ) → Prints out text wanted status
+    → (wanted ≡ 4 → ⊥) → status ≡ 4 → out.before.has_failed ≡ false → out.after.has_failed ≡ true
+device_printed out text wanted status p other is fresh = go p.fails refl p.sent
   where
-    go : (b : Bool) → p.fails ≡ b → Sent b old new text wanted status → new.has_failed ≡ true
+    go : (b : Bool) → p.fails ≡ b → Sent b out text wanted status → out.after.has_failed ≡ true
     go true e s = p.told fresh ∙ e
     go false e s = absurd (other (sym s.0 ∙ is))
 
@@ -69,23 +72,24 @@ fault_is_status (faults.Device role written) status (inl e) = inr (inr (inr (inr
 fault_is_status faults.Memory status (inl e) = inr (inr (inr (inr (inr (inl e)))))
 fault_is_status fault status (inr e) = inr (inr (inr (inr (inl e))))
 
-pub ends_in_status : (outcome : Result Unit FileFault) (err err' : Output) (status : ℕ) → Ends outcome err err' status
+pub ends_in_status : (outcome : Result Unit FileFault) (err : Output) (status : ℕ) → Ends outcome err status
     → IsStatus status
-ends_in_status (Ok x) err err' status e = inl e.0
-ends_in_status (Err fault) err err' status e = fault_is_status fault status
-    (status_printed err err' (line_of fault) (fault_status fault) status e)
+ends_in_status (Ok x) err status e = inl e.0
+ends_in_status (Err fault) err status e = fault_is_status fault status
+    (status_printed err (line_of fault) (fault_status fault) status e)
 
-pub ends_failing : (outcome : Result Unit FileFault) (err err' : Output) (status : ℕ) → Ends outcome err err' status
-    → err.has_failed ≡ false → err'.has_failed ≡ true → status ≡ 4
-ends_failing (Ok x) err err' status e fresh fails = failed_twice err err' e.1 fresh fails
-ends_failing (Err fault) err err' status e fresh fails = failure_printed err err' (line_of fault) (fault_status fault)
-    status e fresh fails
+pub ends_failing : (outcome : Result Unit FileFault) (err : Output) (status : ℕ) → Ends outcome err status
+    → err.before.has_failed ≡ false → err.after.has_failed ≡ true → status ≡ 4
+ends_failing (Ok x) err status e fresh fails = failed_twice err e.1 fresh fails
+ends_failing (Err fault) err status e fresh fails =
+    failure_printed err (line_of fault) (fault_status fault) status e fresh fails
 
 -- ---- an end of any kind
 
 -- what goes out where the status isn't that of a run that was done, or of a device
-abbrev pub Unwritten : Option (List ℕ) → Option (List ℕ) → ℕ → Type 0
-Unwritten old new status = (status ≡ 0) ⊎ (status ≡ 1) ⊎ (status ≡ 4) ⊎ Keeps old new
+abbrev pub Unwritten : Output → ℕ → Type 0
+Unwritten out status =
+    (status ≡ 0) ⊎ (status ≡ 1) ⊎ (status ≡ 4) ⊎ Keeps out.before.held out.after.held
 
 -- the status that is wanted
 abbrev pub wanted_of : Ending → ℕ
@@ -100,60 +104,62 @@ IsFit (on_error line wanted) = IsStatus wanted
 IsFit (on_both text line wanted) = (wanted ≡ 0) ⊎ (wanted ≡ 1)
 
 -- What is said beside what was done, but of devices.
-pub record SaysAs (out out' err err' : Output) (status : ℕ) : Type 0 where
-  pub is_status : IsStatus status
-  pub unwritten : Unwritten out.held out'.held status
-  pub out_failed : out.has_failed ≡ false → out'.has_failed ≡ true → status ≡ 4
-  pub err_failed : err.has_failed ≡ false → err'.has_failed ≡ true → status ≡ 4
+pub record SaysAs (exit : Exit) : Type 0 where
+  pub is_status : IsStatus exit.status
+  pub unwritten : Unwritten exit.out exit.status
+  pub out_failed : exit.out.before.has_failed ≡ false → exit.out.after.has_failed ≡ true → exit.status ≡ 4
+  pub err_failed : exit.err.before.has_failed ≡ false → exit.err.after.has_failed ≡ true → exit.status ≡ 4
+
+-- an output has failed
+abbrev pub OneFailed : Exit → Type 0
+OneFailed exit = (exit.out.after.has_failed ≡ true) ⊎ (exit.err.after.has_failed ≡ true)
 
 -- a line or none: the status is the one that is wanted, or a device's, where the error output fails or where it has
-close_status : (line : Option (List ℕ)) (wanted : ℕ) (err err' : Output) (status : ℕ)
-    → Closes line wanted err err' status → (status ≡ wanted) ⊎ (status ≡ 4)
-close_status None wanted err err' status c = inl c.0
-close_status (Some line) wanted err err' status c = status_printed err err' line wanted status c
+close_status : (line : Option (List ℕ)) (wanted : ℕ) (err : Output) (status : ℕ) → Closes line wanted err status
+    → (status ≡ wanted) ⊎ (status ≡ 4)
+close_status None wanted err status c = inl c.0
+close_status (Some line) wanted err status c = status_printed err line wanted status c
 
-close_failing : (line : Option (List ℕ)) (wanted : ℕ) (err err' : Output) (status : ℕ)
-    → Closes line wanted err err' status → err.has_failed ≡ false → err'.has_failed ≡ true → status ≡ 4
-close_failing None wanted err err' status c fresh fails = failed_twice err err' c.1 fresh fails
-close_failing (Some line) wanted err err' status c fresh fails =
-    failure_printed err err' line wanted status c fresh fails
+close_failing : (line : Option (List ℕ)) (wanted : ℕ) (err : Output) (status : ℕ) → Closes line wanted err status
+    → err.before.has_failed ≡ false → err.after.has_failed ≡ true → status ≡ 4
+close_failing None wanted err status c fresh fails = failed_twice err c.1 fresh fails
+close_failing (Some line) wanted err status c fresh fails = failure_printed err line wanted status c fresh fails
 
-close_device : (line : Option (List ℕ)) (wanted : ℕ) (err err' : Output) (status : ℕ)
-    → Closes line wanted err err' status → (wanted ≡ 4 → ⊥) → status ≡ 4 → err.has_failed ≡ false
-    → err'.has_failed ≡ true
-close_device None wanted err err' status c other is fresh = absurd (other (sym c.0 ∙ is))
-close_device (Some line) wanted err err' status c other is fresh =
-    device_printed err err' line wanted status c other is fresh
+close_device : (line : Option (List ℕ)) (wanted : ℕ) (err : Output) (status : ℕ) → Closes line wanted err status
+    → (wanted ≡ 4 → ⊥) → status ≡ 4 → err.before.has_failed ≡ false → err.after.has_failed ≡ true
+close_device None wanted err status c other is fresh = absurd (other (sym c.0 ∙ is))
+close_device (Some line) wanted err status c other is fresh = device_printed err line wanted status c other is fresh
 
 -- a text and perhaps a line
-module _ (text : List ℕ) (line : Option (List ℕ)) (wanted : ℕ) (out out' err err' : Output) (status : ℕ) where
+module _ (text : List ℕ) (line : Option (List ℕ)) (wanted : ℕ) (exit : Exit) where
   abbrev Behind : Result Unit WriteFault → Type 0
-  Behind sent = MatchResult sent (λ _. Closes line wanted err err' status)
-      (λ fault. Ends (Err (write_fault roles.Output fault)) err err' status)
+  Behind sent = MatchResult sent (λ _. Closes line wanted exit.err exit.status)
+      (λ fault. Ends (Err (write_fault roles.Output fault)) exit.err exit.status)
 
-  is_device : (fault : WriteFault) → Ends (Err (write_fault roles.Output fault)) err err' status → status ≡ 4
-  is_device fault ends =
-      four status (status_printed err err' (line_of (write_fault roles.Output fault)) 4 status ends)
+  is_device : (fault : WriteFault) → Ends (Err (write_fault roles.Output fault)) exit.err exit.status
+      → exit.status ≡ 4
+  is_device fault ends = four exit.status
+      (status_printed exit.err (line_of (write_fault roles.Output fault)) 4 exit.status ends)
 
-  told_status : (wanted ≡ 0) ⊎ (wanted ≡ 1) → (status ≡ wanted) ⊎ (status ≡ 4)
-      → IsStatus status × Unwritten out.held out'.held status
+  told_status : (wanted ≡ 0) ⊎ (wanted ≡ 1) → (exit.status ≡ wanted) ⊎ (exit.status ≡ 4)
+      → IsStatus exit.status × Unwritten exit.out exit.status
   told_status (inl zero) (inl e) = (inl (e ∙ zero), inl (e ∙ zero))
   told_status (inr one) (inl e) = (inr (inl (e ∙ one)), inr (inl (e ∙ one)))
   told_status fit (inr e) = (inr (inr (inr (inr (inl e)))), inr (inr (inl e)))
 
-  tells_say : (wanted ≡ 0) ⊎ (wanted ≡ 1) → Tells text line wanted out out' err err' status
-      → SaysAs out out' err err' status
+  tells_say : (wanted ≡ 0) ⊎ (wanted ≡ 1) → Tells text line wanted exit → SaysAs exit
   tells_say fit t = go t.sent t.output_fails t.ends
     where
-      go : (sent : Result Unit WriteFault) → (out.has_failed ≡ false → out'.has_failed ≡ is_err sent) → Behind sent
-          → SaysAs out out' err err' status
+      go : (sent : Result Unit WriteFault)
+          → (exit.out.before.has_failed ≡ false → exit.out.after.has_failed ≡ is_err sent) → Behind sent
+          → SaysAs exit
       go (Ok x) told ends =
-          let s = told_status fit (close_status line wanted err err' status ends) in
+          let s = told_status fit (close_status line wanted exit.err exit.status ends) in
           record {
             is_status = s.0;
             unwritten = s.1;
             out_failed = (λ fresh fails. absurd (true≢false (sym fails ∙ told fresh)));
-            err_failed = close_failing line wanted err err' status ends;
+            err_failed = close_failing line wanted exit.err exit.status ends;
           }
       go (Err fault) told ends =
           let device = is_device fault ends in
@@ -164,73 +170,64 @@ module _ (text : List ℕ) (line : Option (List ℕ)) (wanted : ℕ) (out out' e
             err_failed = (λ fresh fails. device);
           }
 
-  tells_in : Tells text line wanted out out' err err' status → (status ≡ wanted) ⊎ (status ≡ 4)
+  tells_in : Tells text line wanted exit → (exit.status ≡ wanted) ⊎ (exit.status ≡ 4)
   tells_in t = go t.sent t.ends
     where
-      go : (sent : Result Unit WriteFault) → Behind sent → (status ≡ wanted) ⊎ (status ≡ 4)
-      go (Ok x) ends = close_status line wanted err err' status ends
+      go : (sent : Result Unit WriteFault) → Behind sent → (exit.status ≡ wanted) ⊎ (exit.status ≡ 4)
+      go (Ok x) ends = close_status line wanted exit.err exit.status ends
       go (Err fault) ends = inr (is_device fault ends)
 
-  tells_device : (wanted ≡ 4 → ⊥) → Tells text line wanted out out' err err' status → status ≡ 4
-      → out.has_failed ≡ false → err.has_failed ≡ false → (out'.has_failed ≡ true) ⊎ (err'.has_failed ≡ true)
+  tells_device : (wanted ≡ 4 → ⊥) → Tells text line wanted exit → exit.status ≡ 4
+      → exit.out.before.has_failed ≡ false → exit.err.before.has_failed ≡ false → OneFailed exit
   tells_device other t is fresh clean = go t.sent (t.output_fails fresh) t.ends
     where
-      go : (sent : Result Unit WriteFault) → out'.has_failed ≡ is_err sent → Behind sent
-          → (out'.has_failed ≡ true) ⊎ (err'.has_failed ≡ true)
-      go (Ok x) told ends = inr (close_device line wanted err err' status ends other is clean)
+      go : (sent : Result Unit WriteFault) → exit.out.after.has_failed ≡ is_err sent → Behind sent → OneFailed exit
+      go (Ok x) told ends = inr (close_device line wanted exit.err exit.status ends other is clean)
       go (Err fault) told ends = inl told
 
 -- what is said where a run ends so
-pub ends_say : (e : Ending) (out out' err err' : Output) (status : ℕ) → IsFit e → EndsAs e out out' err err' status
-    → SaysAs out out' err err' status
-ends_say (on_output text wanted) out out' err err' status fit ends =
-    tells_say text None wanted out out' err err' status fit ends
-ends_say (on_both text line wanted) out out' err err' status fit ends =
-    tells_say text (Some line) wanted out out' err err' status fit ends
-ends_say (on_error line wanted) out out' err err' status fit ends = record {
-  is_status = by (status_printed err err' line wanted status ends.1);
-  unwritten = inr (inr (inr (keeps_same out out' ends.0)));
-  out_failed = (λ fresh fails. failed_twice out out' ends.0 fresh fails);
-  err_failed = failure_printed err err' line wanted status ends.1;
+pub ends_say : (e : Ending) (exit : Exit) → IsFit e → EndsAs e exit → SaysAs exit
+ends_say (on_output text wanted) exit fit ends = tells_say text None wanted exit fit ends
+ends_say (on_both text line wanted) exit fit ends = tells_say text (Some line) wanted exit fit ends
+ends_say (on_error line wanted) exit fit ends = record {
+  is_status = by (status_printed exit.err line wanted exit.status ends.1);
+  unwritten = inr (inr (inr (keeps_same exit.out ends.0)));
+  out_failed = (λ fresh fails. failed_twice exit.out ends.0 fresh fails);
+  err_failed = failure_printed exit.err line wanted exit.status ends.1;
 }
   where
-    by : (status ≡ wanted) ⊎ (status ≡ 4) → IsStatus status
+    by : (exit.status ≡ wanted) ⊎ (exit.status ≡ 4) → IsStatus exit.status
     by (inl e) = subst IsStatus (sym e) fit
     by (inr e) = inr (inr (inr (inr (inl e))))
 
 -- the status is the one that is wanted, or a device's
-pub ends_in : (e : Ending) (out out' err err' : Output) (status : ℕ) → EndsAs e out out' err err' status
-    → (status ≡ wanted_of e) ⊎ (status ≡ 4)
-ends_in (on_output text wanted) out out' err err' status ends =
-    tells_in text None wanted out out' err err' status ends
-ends_in (on_both text line wanted) out out' err err' status ends =
-    tells_in text (Some line) wanted out out' err err' status ends
-ends_in (on_error line wanted) out out' err err' status ends = status_printed err err' line wanted status ends.1
+pub ends_in : (e : Ending) (exit : Exit) → EndsAs e exit → (exit.status ≡ wanted_of e) ⊎ (exit.status ≡ 4)
+ends_in (on_output text wanted) exit ends = tells_in text None wanted exit ends
+ends_in (on_both text line wanted) exit ends = tells_in text (Some line) wanted exit ends
+ends_in (on_error line wanted) exit ends = status_printed exit.err line wanted exit.status ends.1
 
 -- a device's, where another is wanted, says that an output has failed
-pub ends_device : (e : Ending) (out out' err err' : Output) (status : ℕ) → EndsAs e out out' err err' status
-    → (wanted_of e ≡ 4 → ⊥) → status ≡ 4 → out.has_failed ≡ false → err.has_failed ≡ false
-    → (out'.has_failed ≡ true) ⊎ (err'.has_failed ≡ true)
-ends_device (on_output text wanted) out out' err err' status ends other is fresh clean =
-    tells_device text None wanted out out' err err' status other ends is fresh clean
-ends_device (on_both text line wanted) out out' err err' status ends other is fresh clean =
-    tells_device text (Some line) wanted out out' err err' status other ends is fresh clean
-ends_device (on_error line wanted) out out' err err' status ends other is fresh clean =
-    inr (device_printed err err' line wanted status ends.1 other is clean)
+pub ends_device : (e : Ending) (exit : Exit) → EndsAs e exit → (wanted_of e ≡ 4 → ⊥) → exit.status ≡ 4
+    → exit.out.before.has_failed ≡ false → exit.err.before.has_failed ≡ false → OneFailed exit
+ends_device (on_output text wanted) exit ends other is fresh clean =
+    tells_device text None wanted exit other ends is fresh clean
+ends_device (on_both text line wanted) exit ends other is fresh clean =
+    tells_device text (Some line) wanted exit other ends is fresh clean
+ends_device (on_error line wanted) exit ends other is fresh clean =
+    inr (device_printed exit.err line wanted exit.status ends.1 other is clean)
 
 -- what holds of the status that is wanted, and of a device's, holds of the status
-pub ends_among : (P : ℕ → Type 0) (e : Ending) (out out' err err' : Output) (status : ℕ)
-    → EndsAs e out out' err err' status → P (wanted_of e) → P 4 → P status
-ends_among P e out out' err err' status ends wanted device =
-    elim (ends_in e out out' err err' status ends) [
+pub ends_among : (P : ℕ → Type 0) (e : Ending) (exit : Exit) → EndsAs e exit → P (wanted_of e) → P 4
+    → P exit.status
+ends_among P e exit ends wanted device =
+    elim (ends_in e exit ends) [
       | inl is ↦ subst P (sym is) wanted
       | inr is ↦ subst P (sym is) device
     ]
 
 -- a device's comes of what was met, or an output has failed
-pub ends_by_devices : (A : Type 0) (e : Ending) (out out' err err' : Output) (status : ℕ)
-    → EndsAs e out out' err err' status → A ⊎ (wanted_of e ≡ 4 → ⊥) → status ≡ 4 → out.has_failed ≡ false
-    → err.has_failed ≡ false → A ⊎ ((out'.has_failed ≡ true) ⊎ (err'.has_failed ≡ true))
-ends_by_devices A e out out' err err' status ends (inl met) is fresh clean = inl met
-ends_by_devices A e out out' err err' status ends (inr other) is fresh clean =
-    inr (ends_device e out out' err err' status ends other is fresh clean)
+pub ends_by_devices : (A : Type 0) (e : Ending) (exit : Exit) → EndsAs e exit → A ⊎ (wanted_of e ≡ 4 → ⊥)
+    → exit.status ≡ 4 → exit.out.before.has_failed ≡ false → exit.err.before.has_failed ≡ false
+    → A ⊎ OneFailed exit
+ends_by_devices A e exit ends (inl met) is fresh clean = inl met
+ends_by_devices A e exit ends (inr other) is fresh clean = inr (ends_device e exit ends other is fresh clean)

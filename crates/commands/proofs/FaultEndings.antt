@@ -1,5 +1,5 @@
 -- How a run ends for which a file isn't checked, merged or verified: what its status says.
-use Rattle.std.proofs.Common.{◌≡◌, Bool, true, false, ℕ, Result, Ok, Err, IfSome, inl, inr, refl, sym, subst, ◌∙◌, true≢false, arith}
+use Rattle.std.proofs.Common.{◌≡◌, Bool, true, false, Result, Ok, Err, IfSome, inl, inr, refl, sym, subst, ◌∙◌, true≢false, arith}
 use Rattle.std.specs.Prelude.{◌⊎◌}
 use Rattle.express_syntax.specs.declared.fault.SchemaFault.TheVariants as schemas
 use Rattle.files.specs.Stores.{Stored}
@@ -9,9 +9,9 @@ use Rattle.faults.specs.Devices.{FileFailsAs, SchemaFailsAs, is_device}
 use Rattle.faults.specs.declared.fault.Fault.{Fault}
 use Rattle.faults.specs.declared.fault.Fault.TheVariants.{Certificate, Device, Findings, Memory, Refused, Schema, Text, Unchecked}
 use Rattle.commands.specs.CommandLines.{CanFail}
-use Rattle.commands.specs.Endings.{EndsAs, Output}
+use Rattle.commands.specs.Endings.{EndsAs, Exit}
 use Rattle.commands.specs.Faults.{fault_ending}
-use Rattle.commands.proofs.Endings.{IsFit, ends_by_devices, ends_in, four, wanted_of}
+use Rattle.commands.proofs.Endings.{IsFit, OneFailed, ends_by_devices, ends_in, four, wanted_of}
 
 pub fault_fit : (fault : Fault) → IsFit (fault_ending fault)
 fault_fit (Schema (schemas.Text kind place)) = inr (inr (inl refl))
@@ -58,29 +58,28 @@ module _ (T : Type 0) where
   wants_device role (Device other written) is = refl
   wants_device role Memory is = absurd (true≢false (sym is))
 
-  pub device_ends : (role : Role) (fault : Fault) (out out' err err' : Output) (status : ℕ)
-      → EndsAs (fault_ending fault) out out' err err' status → is_device {T = T} role (Err fault) ≡ true → status ≡ 4
-  device_ends role fault out out' err err' status ends is =
-      four status (subst (λ wanted. (status ≡ wanted) ⊎ (status ≡ 4)) (wants_device role fault is)
-      (ends_in (fault_ending fault) out out' err err' status ends))
+  pub device_ends : (role : Role) (fault : Fault) (exit : Exit)
+      → EndsAs (fault_ending fault) exit → is_device {T = T} role (Err fault) ≡ true → exit.status ≡ 4
+  device_ends role fault exit ends is =
+      four exit.status (subst (λ wanted. (exit.status ≡ wanted) ⊎ (exit.status ≡ 4)) (wants_device role fault is)
+      (ends_in (fault_ending fault) exit ends))
 
   -- where the status is a device's, one of four has failed, by the fault, or an output
-  pub one_failed : (fault : Fault) (out out' err err' : Output) (status : ℕ) (s f o c : Bool)
+  pub one_failed : (fault : Fault) (exit : Exit) (s f o c : Bool)
       → s ≡ is_device {T = T} roles.Schema (Err fault) → f ≡ is_device {T = T} roles.File (Err fault)
       → o ≡ is_device {T = T} roles.Output (Err fault) → c ≡ is_device {T = T} roles.Certificate (Err fault)
-      → EndsAs (fault_ending fault) out out' err err' status → status ≡ 4 → out.has_failed ≡ false
-      → err.has_failed ≡ false
-      → (s ≡ true) ⊎ (f ≡ true) ⊎ (o ≡ true) ⊎ (c ≡ true) ⊎ (out'.has_failed ≡ true) ⊎ (err'.has_failed ≡ true)
-  one_failed fault out out' err err' status s f o c es ef eo ec ends is fresh clean =
-      elim (ends_by_devices (IsOfDevice fault) (fault_ending fault) out out' err err' status ends (device_wanted fault) is
+      → EndsAs (fault_ending fault) exit → exit.status ≡ 4 → exit.out.before.has_failed ≡ false
+      → exit.err.before.has_failed ≡ false
+      → (s ≡ true) ⊎ (f ≡ true) ⊎ (o ≡ true) ⊎ (c ≡ true) ⊎ OneFailed exit
+  one_failed fault exit s f o c es ef eo ec ends is fresh clean =
+      elim (ends_by_devices (IsOfDevice fault) (fault_ending fault) exit ends (device_wanted fault) is
       fresh clean) [
         | inl met ↦ by met.0 met.1
-        | inr (inl e) ↦ inr (inr (inr (inr (inl e))))
-        | inr (inr e) ↦ inr (inr (inr (inr (inr e))))
+        | inr failed ↦ inr (inr (inr (inr failed)))
       ]
     where
       by : (role : Role) → is_device {T = T} role (Err fault) ≡ true
-          → (s ≡ true) ⊎ (f ≡ true) ⊎ (o ≡ true) ⊎ (c ≡ true) ⊎ (out'.has_failed ≡ true) ⊎ (err'.has_failed ≡ true)
+          → (s ≡ true) ⊎ (f ≡ true) ⊎ (o ≡ true) ⊎ (c ≡ true) ⊎ OneFailed exit
       by roles.Schema e = inl (es ∙ e)
       by roles.File e = inr (inl (ef ∙ e))
       by roles.Output e = inr (inr (inl (eo ∙ e)))

@@ -17,14 +17,14 @@ use Rattle.faults.specs.Faults.{unread}
 use Rattle.faults.specs.declared.fault.Fault.{Fault}
 use Rattle.faults.specs.declared.fault.Fault.TheVariants.{Memory}
 use Rattle.faults.proofs.Failing.{schema_read, unread_before, unread_other, unread_schema}
-use Rattle.shrinking.specs.Shrinking.{Shrinks}
+use Rattle.shrinking.specs.Shrinking.{Shrinks, Written}
 use Rattle.shrinking.specs.declared.summary.Summary.{Summary}
 use Rattle.shrinking.proofs.Answering.{of_source, schema_not_given, unwritten}
-use Rattle.commands.specs.CommandLines.{CanFail, HasFailedWriter, IsDevices, RunsMerged}
-use Rattle.commands.specs.Endings.{EndsAs, Output, Prints}
+use Rattle.commands.specs.CommandLines.{CanFail, HasFailedWriter, IsDevices, RunsMerged, written_at}
+use Rattle.commands.specs.Endings.{EndsAs, Exit, IsUntouched, Output, OutputState, Prints}
 use Rattle.files.specs.Lines.{line_of}
 use Rattle.commands.specs.Faults.{fault_ending}
-use Rattle.commands.specs.Merges.{MakesSmaller, RunsShrink, StandsAsWriter, asked_choice, shrink_ending, written_in}
+use Rattle.commands.specs.Merges.{MakesSmaller, RunsShrink, StandsAsWriter, Writers, asked_choice, shrink_ending, written_in}
 use Rattle.commands.specs.Runs.{Refuses}
 use Rattle.commands.proofs.Endings.{IsFit, SaysAs, ends_by_devices, ends_say, failed_twice, wanted_of}
 use Rattle.commands.proofs.FaultEndings.{device_wanted, fault_fit, file_can, schema_can}
@@ -33,74 +33,75 @@ pub shrink_fit : (outcome : Result Summary Fault) → IsFit (shrink_ending outco
 shrink_fit (Ok m) = inl refl
 shrink_fit (Err fault) = fault_fit fault
 
+-- an output that a run doesn't touch
+abbrev pub still : OutputState → Output
+still state = record { before = state; after = state }
+
 -- ---- the schema
 
 -- it isn't read to its end
 pub unread_shrink : (T : Type 0) (schema : Stored) (e : ReadFault) (f : Fault) → f ≡ unread roles.Schema e
-    → (choice : Choice) (strict : Bool) (file : Stored) (made proof out out' err err' : Output) (status : ℕ)
+    → (choice : Choice) (strict : Bool) (file : Stored) (output certificate : OutputState) (exit : Exit)
     → (e ≡ reads.TooLarge → IsBeyond (2 ^ 40) schema.contents) → IfSome schema.fails (DeviceFailsAs {T = T} (Err e))
-    → EndsAs (fault_ending f) out out' err err' status
-    → RunsShrink choice strict schema file made made proof proof out out' err err' status
-unread_shrink T schema e f is choice strict file made proof out out' err err' status beyond told ends = record {
+    → EndsAs (fault_ending f) exit
+    → RunsShrink choice strict schema file (still output) (still certificate) exit
+unread_shrink T schema e f is choice strict file output certificate exit beyond told ends = record {
   outcome = Err f;
-  shrinks = schema_not_given choice strict schema.contents file.contents made.held proof.held e f is beyond;
+  shrinks = schema_not_given choice strict schema.contents file.contents output.held certificate.held e f is beyond;
   schema_fails = unread_schema Summary e f is T schema.fails told;
   file_fails = unread_before Summary e f is file.fails;
-  made_fails = (λ fresh. fresh ∙ sym (unread_other Summary roles.Schema e f is roles.Output refl));
-  proof_fails = (λ fresh. fresh ∙ sym (unread_other Summary roles.Schema e f is roles.Certificate refl));
+  output_fails = (λ fresh. fresh ∙ sym (unread_other Summary roles.Schema e f is roles.Output refl));
+  certificate_fails = (λ fresh. fresh ∙ sym (unread_other Summary roles.Schema e f is roles.Certificate refl));
   ends = ends;
 }
 
 -- it is, and this is answered to its text
 pub read_shrink : (schema file : Stored) (left : Option (List ℕ)) (text : List ℕ) (choice : Choice) (strict : Bool)
-    (made made' proof proof' out out' err err' : Output) (status : ℕ) (outcome : Result Summary Fault)
+    (output certificate : Output) (exit : Exit) (outcome : Result Summary Fault)
     → ReadsWhole schema.contents left text → IfSome schema.fails (λ each. false ≡ each)
-    → Shrinks choice strict (Some text) file.contents (written_in made made') (written_in proof proof') outcome
+    → Shrinks choice strict (Some text) file.contents (written_in output) (written_in certificate) outcome
     → is_device roles.Schema outcome ≡ false → IfSome file.fails (FileFailsAs outcome)
-    → (made.has_failed ≡ false → made'.has_failed ≡ is_device roles.Output outcome)
-    → (proof.has_failed ≡ false → proof'.has_failed ≡ is_device roles.Certificate outcome)
-    → EndsAs (shrink_ending outcome) out out' err err' status
-    → RunsShrink choice strict schema file made made' proof proof' out out' err err' status
-read_shrink schema file left text choice strict made made' proof proof' out out' err err' status outcome whole told
-    shrinks fine file_told made_told proof_told ends = record {
+    → (output.before.has_failed ≡ false → output.after.has_failed ≡ is_device roles.Output outcome)
+    → (certificate.before.has_failed ≡ false → certificate.after.has_failed ≡ is_device roles.Certificate outcome)
+    → EndsAs (shrink_ending outcome) exit
+    → RunsShrink choice strict schema file output certificate exit
+read_shrink schema file left text choice strict output certificate exit outcome whole told
+    shrinks fine file_told output_told certificate_told ends = record {
       outcome = outcome;
-      shrinks = of_source choice strict schema.contents left text file.contents (written_in made made')
-          (written_in proof proof') outcome whole shrinks;
+      shrinks = of_source choice strict schema.contents left text file.contents (written_in output)
+          (written_in certificate) outcome whole shrinks;
       schema_fails = schema_read schema.fails outcome fine told;
       file_fails = file_told;
-      made_fails = made_told;
-      proof_fails = proof_told;
+      output_fails = output_told;
+      certificate_fails = certificate_told;
       ends = ends;
     }
 
 -- ---- a run that is kept
 
 -- what has failed since stands as a writer that has
-writer_failed : {W : Type 0} (held : W → Option (List ℕ)) (has_failed : W → Bool) (made made' : Output)
-    → StandsAsWriter held has_failed made made' → made.has_failed ≡ false → made'.has_failed ≡ true
-    → HasFailedWriter has_failed
-writer_failed held has_failed made made' (inl same) fresh fails = failed_twice made made' same fresh fails
-writer_failed held has_failed made made' (inr (writer, is)) fresh fails =
-    (writer, sym (ap (λ (o : Output). o.has_failed) is) ∙ fails)
+writer_failed : (writers : Writers) (out : Output) → StandsAsWriter writers out
+    → out.before.has_failed ≡ false → out.after.has_failed ≡ true
+    → HasFailedWriter writers
+writer_failed writers out (inl same) fresh fails = failed_twice out same fresh fails
+writer_failed writers out (inr (writer, is)) fresh fails =
+    (writer, sym (ap (λ (o : OutputState). o.has_failed) is) ∙ fails)
 
-module _ {W : Type 0} (held : W → Option (List ℕ)) (has_failed : W → Bool) (choice : Choice) (strict : Bool)
-    (schema file : Stored) (smaller smaller' proved proved' : Option (List ℕ)) (out out' err err' : Output)
-    (status : ℕ) where
-  pub smaller_says : MakesSmaller held has_failed choice strict schema file smaller smaller' proved proved' out out' err
-      err' status → SaysAs out out' err err' status
-  smaller_says m = ends_say (shrink_ending m.runs.outcome) out out' err err' status (shrink_fit m.runs.outcome)
+module _ (writers : Writers) (choice : Choice) (strict : Bool)
+    (schema file : Stored) (at_output at_certificate : Written) (exit : Exit) where
+  pub smaller_says : MakesSmaller writers choice strict schema file at_output at_certificate exit → SaysAs exit
+  smaller_says m = ends_say (shrink_ending m.runs.outcome) exit (shrink_fit m.runs.outcome)
       m.runs.ends
 
   -- where the device of this role has failed, by the answer, it is one that can, or a writer that has
-  pub role_can : (m : MakesSmaller held has_failed choice strict schema file smaller smaller' proved proved' out out'
-      err err' status) → (role : Role) → is_device role m.runs.outcome ≡ true
-      → CanFail schema ⊎ CanFail file ⊎ HasFailedWriter has_failed
+  pub role_can : (m : MakesSmaller writers choice strict schema file at_output at_certificate exit) → (role : Role) → is_device role m.runs.outcome ≡ true
+      → CanFail schema ⊎ CanFail file ⊎ HasFailedWriter writers
   role_can m roles.Schema is = inl (schema_can Summary m.runs.outcome schema is m.runs.schema_fails)
   role_can m roles.File is = inr (inl (file_can Summary m.runs.outcome file is m.runs.file_fails))
-  role_can m roles.Output is = inr (inr (writer_failed held has_failed m.made m.made' m.made_stands
-      m.made_empty.fresh (m.runs.made_fails m.made_empty.fresh ∙ is)))
-  role_can m roles.Certificate is = inr (inr (writer_failed held has_failed m.proof m.proof' m.proof_stands
-      m.proof_empty.fresh (m.runs.proof_fails m.proof_empty.fresh ∙ is)))
+  role_can m roles.Output is = inr (inr (writer_failed writers m.output m.output_stands
+      m.output_empty.fresh (m.runs.output_fails m.output_empty.fresh ∙ is)))
+  role_can m roles.Certificate is = inr (inr (writer_failed writers m.certificate m.certificate_stands
+      m.certificate_empty.fresh (m.runs.certificate_fails m.certificate_empty.fresh ∙ is)))
 
 -- the device of some role has failed, by the answer
 abbrev IsOfDevice : Result Summary Fault → Type 0
@@ -112,13 +113,12 @@ shrink_wanted : (outcome : Result Summary Fault)
 shrink_wanted (Ok m) = inr (λ never. omega (arith, never))
 shrink_wanted (Err fault) = device_wanted Summary fault
 
-pub shrink_device : {W : Type 0} (held : W → Option (List ℕ)) (has_failed : W → Bool) (words : List (List ℕ))
-    (files : List ℕ → Stored) (holds : List ℕ → Option (List ℕ)) (out out' err err' : Output) (status : ℕ)
-    → RunsMerged held has_failed words files holds out out' err err' status → status ≡ 4
-    → IsDevices has_failed words files out out' err err'
-shrink_device held has_failed words files holds out out' err err' status r is = λ fresh clean.
-    elim (ends_by_devices (IsOfDevice r.makes.runs.outcome) (shrink_ending r.makes.runs.outcome) out out' err err'
-    status r.makes.runs.ends (shrink_wanted r.makes.runs.outcome) is fresh clean) [
+pub shrink_device : (writers : Writers) (words : List (List ℕ))
+    (files : List ℕ → Stored) (holds : List ℕ → Option (List ℕ)) (exit : Exit)
+    → RunsMerged writers words files holds exit → exit.status ≡ 4
+    → IsDevices writers words files exit
+shrink_device writers words files holds exit r is = λ fresh clean.
+    elim (ends_by_devices (IsOfDevice r.makes.runs.outcome) (shrink_ending r.makes.runs.outcome) exit r.makes.runs.ends (shrink_wanted r.makes.runs.outcome) is fresh clean) [
       | inl met ↦ inr (inr (inr (inr (inr (
         r.schema,
         r.file,
@@ -127,9 +127,8 @@ shrink_device held has_failed words files holds out out' err err' status r is = 
         r.merge,
         r.strict,
         r.asks,
-        role_can held has_failed (asked_choice r.merge) r.strict (files r.schema) (files r.file)
-            (files r.output).contents (holds r.output) (files r.certificate).contents (holds r.certificate) out out'
-            err err' status r.makes met.0 met.1,
+        role_can writers (asked_choice r.merge) r.strict (files r.schema) (files r.file)
+            (written_at files holds r.output) (written_at files holds r.certificate) exit r.makes met.0 met.1,
       )))))
       | inr (inl failed) ↦ inl failed
       | inr (inr failed) ↦ inr (inl failed)
@@ -140,9 +139,9 @@ is_text None = tt
 is_text (Some text) = refl
 
 -- nothing was merged for want of memory
-unshrunk : (choice : Choice) (strict : Bool) (schema file made proof : Option (List ℕ))
-    → Shrinks choice strict schema file (unwritten made) (unwritten proof) (Err Memory)
-unshrunk choice strict schema file made proof = record {
+unshrunk : (choice : Choice) (strict : Bool) (schema file output certificate : Option (List ℕ))
+    → Shrinks choice strict schema file (unwritten output) (unwritten certificate) (Err Memory)
+unshrunk choice strict schema file output certificate = record {
   text = unwrap_or schema [];
   bytes = unwrap_or file [];
   output = [];
@@ -150,41 +149,38 @@ unshrunk choice strict schema file made proof = record {
   text_is = is_text schema;
   bytes_are = is_text file;
   answers = (refl, refl);
-  written = Appends-nil made;
-  certified = Appends-nil proof;
+  written = Appends-nil output;
+  certified = Appends-nil certificate;
 }
 
 -- nothing written
 abbrev nothing : Output
-nothing = record { held = Some []; has_failed = false }
+nothing = still (record { held = Some []; has_failed = false })
 
-pub memory_smaller : {W : Type 0} (held : W → Option (List ℕ)) (has_failed : W → Bool) (choice : Choice) (strict : Bool)
-    (schema file : Stored)
-    (smaller smaller' proved proved' : Option (List ℕ)) (out out' err err' : Output) (status : ℕ)
-    → smaller' ≡ smaller → proved' ≡ proved → out' ≡ out → Prints err err' (line_of file_faults.Memory) 5 status
-    → MakesSmaller held has_failed choice strict schema file smaller smaller' proved proved' out out' err err' status
-memory_smaller held has_failed choice strict schema file smaller smaller' proved proved' out out' err err' status kept_s
-    kept_p same
+pub memory_smaller : (writers : Writers) (choice : Choice) (strict : Bool) (schema file : Stored)
+    (at_output at_certificate : Written) (exit : Exit) → at_output.after ≡ at_output.before
+    → at_certificate.after ≡ at_certificate.before → IsUntouched exit.out
+    → Prints exit.err (line_of file_faults.Memory) 5 exit.status
+    → MakesSmaller writers choice strict schema file at_output at_certificate exit
+memory_smaller writers choice strict schema file at_output at_certificate exit kept_output kept_certificate same
     prints = record {
-      made = nothing;
-      made' = nothing;
-      proof = nothing;
-      proof' = nothing;
-      made_empty = record { fresh = refl; nothing = refl; told = (λ tell. refl) };
-      proof_empty = record { fresh = refl; nothing = refl; told = (λ tell. refl) };
-      made_stands = inl refl;
-      proof_stands = inl refl;
+      output = nothing;
+      certificate = nothing;
+      output_empty = record { fresh = refl; nothing = refl; told = (λ tell. refl) };
+      certificate_empty = record { fresh = refl; nothing = refl; told = (λ tell. refl) };
+      output_stands = inl refl;
+      certificate_stands = inl refl;
       runs = record {
         outcome = Err Memory;
         shrinks = unshrunk choice strict schema.contents file.contents (Some []) (Some []);
         schema_fails = no_schema_told schema.fails;
         file_fails = no_file_told file.fails;
-        made_fails = (λ fresh. refl);
-        proof_fails = (λ fresh. refl);
+        output_fails = (λ fresh. refl);
+        certificate_fails = (λ fresh. refl);
         ends = (same, prints);
       };
-      smaller_holds = kept_s;
-      proved_holds = kept_p;
+      output_holds = kept_output;
+      certificate_holds = kept_certificate;
     }
   where
     no_schema_told : (o : Option Bool) → IfSome o (SchemaFailsAs {T = Summary} (Err Memory))
@@ -195,15 +191,11 @@ memory_smaller held has_failed choice strict schema file smaller smaller' proved
     no_file_told None = tt
     no_file_told (Some each) = tt
 
-pub refused_smaller : {W : Type 0} (held : W → Option (List ℕ)) (has_failed : W → Bool) (refusal : Refusal)
-    (choice : Choice) (strict : Bool) (schema file : Stored)
-    (smaller smaller' proved proved' : Option (List ℕ)) (out out' err err' : Output) (status : ℕ)
-    → refusal ≡ refusals.Memory → Refuses refusal out out' err err' status → smaller' ≡ smaller → proved' ≡ proved
-    → MakesSmaller held has_failed choice strict schema file smaller smaller' proved proved' out out' err err' status
-refused_smaller held has_failed refusal choice strict schema file smaller smaller' proved proved' out out' err err'
-    status is refuses
-    kept_s kept_p =
-    let r = subst (λ m. Refuses m out out' err err' status) is refuses in
-    memory_smaller held has_failed choice strict schema file smaller smaller' proved proved' out out' err err' status
-    kept_s kept_p r.0
-    r.1
+pub refused_smaller : (writers : Writers) (refusal : Refusal) (choice : Choice) (strict : Bool) (schema file : Stored)
+    (at_output at_certificate : Written) (exit : Exit) → refusal ≡ refusals.Memory → Refuses refusal exit
+    → at_output.after ≡ at_output.before → at_certificate.after ≡ at_certificate.before
+    → MakesSmaller writers choice strict schema file at_output at_certificate exit
+refused_smaller writers refusal choice strict schema file at_output at_certificate exit is refuses kept_output
+    kept_certificate =
+    let r = subst (λ m. Refuses m exit) is refuses in
+    memory_smaller writers choice strict schema file at_output at_certificate exit kept_output kept_certificate r.0 r.1

@@ -1,5 +1,5 @@
 -- Which files are opened.
-use Rattle.std.proofs.Common.{◌≡◌, List, [], ◌∷◌, ◌++◌, ℕ, Option, None, Some, inl, inr, refl, sym, ap, subst, ◌∙◌}
+use Rattle.std.proofs.Common.{◌≡◌, List, [], ◌∷◌, ◌++◌, ℕ, Option, None, Some, inl, inr, ap, subst, ◌∙◌}
 use Rattle.std.proofs.lemmas.List.{append_assoc}
 use Rattle.command_line.specs.AskedMerges.{text_of}
 use Rattle.command_line.specs.Requests.{AskFor}
@@ -39,27 +39,27 @@ module _ {S : Type 0} (opened : S → Option (List Access)) where
       (opens_four o p q r s w x y z first second third fourth) (opens_two s t u a b fifth sixth)
 
 -- what is opened for a request that is this one
-pub request_opens : (request is : Request) (old new : Option (List Access)) (err err' : Output) (status : ℕ)
-    → is ≡ request → OpensUnlessMemory old new (opened_by is) err err' status
-    → OpensUnlessMemory old new (opened_by request) err err' status
-request_opens request is old new err err' status same opens =
-    subst (λ asked. OpensUnlessMemory old new (opened_by asked) err err' status) same opens
+pub request_opens : (request is : Request) (old new : Option (List Access)) (err : Output) (status : ℕ)
+    → is ≡ request → OpensUnlessMemory old new (opened_by is) err status
+    → OpensUnlessMemory old new (opened_by request) err status
+request_opens request is old new err status same opens =
+    subst (λ asked. OpensUnlessMemory old new (opened_by asked) err status) same opens
 
-pub asked_opens : (words : List (List ℕ)) (request : Request) (old new : Option (List Access)) (err err' : Output)
-    (status : ℕ) → AskFor words request → OpensUnlessMemory old new (opened_by request) err err' status
-    → OpensAsked words old new err err' status
-asked_opens words request old new err err' status asks (inr none) = inr (none.0, inr none.1)
-asked_opens words (requests.Plain path) old new err err' status asks (inl opens) =
+pub asked_opens : (words : List (List ℕ)) (request : Request) (old new : Option (List Access)) (err : Output)
+    (status : ℕ) → AskFor words request → OpensUnlessMemory old new (opened_by request) err status
+    → OpensAsked words old new err status
+asked_opens words request old new err status asks (inr none) = inr (none.0, inr none.1)
+asked_opens words (requests.Plain path) old new err status asks (inl opens) =
     inl (opened_by (requests.Plain path), plain_opens path.now asks, opens)
-asked_opens words (requests.Check schema file) old new err err' status asks (inl opens) =
+asked_opens words (requests.Check schema file) old new err status asks (inl opens) =
     inl (opened_by (requests.Check schema file), check_opens schema.now file.now asks, opens)
-asked_opens words (requests.Shrink asked) old new err err' status asks (inl opens) = inl (
+asked_opens words (requests.Shrink asked) old new err status asks (inl opens) = inl (
   smaller_opens asked,
   shrink_opens asked.schema.now asked.file.now asked.output.now asked.certificate.now (text_of asked.merge)
       asked.strict asks,
   opens,
 )
-asked_opens words (requests.Verify asked) old new err err' status asks (inl opens) = inl (
+asked_opens words (requests.Verify asked) old new err status asks (inl opens) = inl (
   proof_opens asked,
   verify_opens asked.schema.now asked.file.now asked.output.now asked.certificate.now (text_of asked.merge) asks,
   opens,

@@ -11,10 +11,10 @@ use Rattle.command_line.specs.declared.usage.Refusal.TheVariants.{Shown, Usage, 
 use Rattle.files.specs.Lines.{line_of}
 use Rattle.files.specs.Stores.{Stored}
 use Rattle.files.specs.declared.fault.FileFault.TheVariants as faults
-use Rattle.commands.specs.CommandLines.{AsksToWrite, Does, IsDevices, IsWantOfMemory, Runs}
+use Rattle.commands.specs.CommandLines.{AsksToWrite, Does, IsDevices, IsWantOfMemory, Runs, written_at}
 use Rattle.commands.specs.ComputedRequests.{IsApart, IsWritten}
-use Rattle.commands.specs.Endings.{Output, on_error}
-use Rattle.commands.specs.Merges.{asked_choice}
+use Rattle.commands.specs.Endings.{Exit, on_error}
+use Rattle.commands.specs.Merges.{Writers, asked_choice}
 use Rattle.commands.specs.Runs.{Refuses}
 use Rattle.commands.specs.Statuses.{IsStatus}
 use Rattle.commands.proofs.CheckRuns.{memory_checks}
@@ -44,12 +44,12 @@ none_asked words (requests.Shrink asked) none asks = none.2 asked.schema.now ask
 none_asked words (requests.Verify asked) none asks = none.3 asked.schema.now asked.file.now asked.output.now
     asked.certificate.now (text_of asked.merge) asks
 
-module _ {W : Type 0} (held : W → Option (List ℕ)) (has_failed : W → Bool) (words : List Text) (files : List ℕ → Stored)
+module _ (writers : Writers) (words : List Text) (files : List ℕ → Stored)
     (holds : List ℕ → Option (List ℕ))
-    (out out' err err' : Output) (status : ℕ) where
+    (exit : Exit) where
   pub asked_runs : (request : Request) → AskFor words request
-      → Does held has_failed request files holds out out' err err' status
-      → Runs held has_failed words files holds out out' err err' status
+      → Does writers request files holds exit
+      → Runs writers words files holds exit
   asked_runs (requests.Plain path) asks does = inl (path.now, asks, does)
   asked_runs (requests.Check schema file) asks does = inr (inl (schema.now, file.now, asks, does))
   asked_runs (requests.Shrink asked) asks does = inr (inr (inl (record {
@@ -100,37 +100,37 @@ apart_asked words (requests.Shrink asked) asks =
 
 -- ---- what was refused
 
-pub refused_device : {W : Type 0} (has_failed : W → Bool) (words : List Text) (files : List ℕ → Stored)
+pub refused_device : (writers : Writers) (words : List Text) (files : List ℕ → Stored)
     (refusal : Refusal)
-    (out out' err err' : Output) (status : ℕ) → Refuses refusal out out' err err' status → status ≡ 4
-    → IsDevices has_failed words files out out' err err'
-refused_device has_failed words files (Shown text) out out' err err' status r is = λ fresh clean.
-    inl (device_printed out out' (string_bytes text) 0 status r.0 (λ no. omega (arith, no)) is fresh)
-refused_device has_failed words files (Usage text) out out' err err' status r is = λ fresh clean.
-    inr (inl (device_printed err err' (string_bytes text) 3 status r.1 (λ no. omega (arith, no)) is clean))
-refused_device has_failed words files Memory out out' err err' status r is = λ fresh clean.
-    inr (inl (device_printed err err' (line_of faults.Memory) 5 status r.1 (λ no. omega (arith, no)) is clean))
+    (exit : Exit) → Refuses refusal exit → exit.status ≡ 4
+    → IsDevices writers words files exit
+refused_device writers words files (Shown text) exit r is = λ fresh clean.
+    inl (device_printed exit.out (string_bytes text) 0 exit.status r.0 (λ no. omega (arith, no)) is fresh)
+refused_device writers words files (Usage text) exit r is = λ fresh clean.
+    inr (inl (device_printed exit.err (string_bytes text) 3 exit.status r.1 (λ no. omega (arith, no)) is clean))
+refused_device writers words files Memory exit r is = λ fresh clean.
+    inr (inl (device_printed exit.err (line_of faults.Memory) 5 exit.status r.1 (λ no. omega (arith, no)) is clean))
 
 -- what is said of the outputs where nothing is done
-pub refused_says : (refusal : Refusal) (out out' err err' : Output) (status : ℕ)
-    → Refuses refusal out out' err err' status → SaysAs out out' err err' status
-refused_says (Shown text) out out' err err' status r = go (status_printed out out' (string_bytes text) 0 status r.0)
+pub refused_says : (refusal : Refusal) (exit : Exit)
+    → Refuses refusal exit → SaysAs exit
+refused_says (Shown text) exit r = go (status_printed exit.out (string_bytes text) 0 exit.status r.0)
   where
-    by : IsStatus status → Unwritten out.held out'.held status → SaysAs out out' err err' status
+    by : IsStatus exit.status → Unwritten exit.out exit.status → SaysAs exit
     by known unwritten = record {
       is_status = known;
       unwritten = unwritten;
-      out_failed = failure_printed out out' (string_bytes text) 0 status r.0;
-      err_failed = (λ fresh fails. failed_twice err err' r.1 fresh fails);
+      out_failed = failure_printed exit.out (string_bytes text) 0 exit.status r.0;
+      err_failed = (λ fresh fails. failed_twice exit.err r.1 fresh fails);
     }
 
-    go : (status ≡ 0) ⊎ (status ≡ 4) → SaysAs out out' err err' status
+    go : (exit.status ≡ 0) ⊎ (exit.status ≡ 4) → SaysAs exit
     go (inl e) = by (inl e) (inl e)
     go (inr e) = by (inr (inr (inr (inr (inl e))))) (inr (inr (inl e)))
-refused_says (Usage text) out out' err err' status r =
-    ends_say (on_error (string_bytes text) 3) out out' err err' status (inr (inr (inr (inl refl)))) r
-refused_says Memory out out' err err' status r =
-    ends_say (on_error (line_of faults.Memory) 5) out out' err err' status (inr (inr (inr (inr (inr (inl refl)))))) r
+refused_says (Usage text) exit r =
+    ends_say (on_error (string_bytes text) 3) exit (inr (inr (inr (inl refl)))) r
+refused_says Memory exit r =
+    ends_say (on_error (line_of faults.Memory) 5) exit (inr (inr (inr (inr (inr (inl refl)))))) r
 
 -- the words of a command line are refused for want of memory alone, where they ask for something
 pub record IsGranted (words : List Text) (refusal : Refusal) : Type 0 where
@@ -139,39 +139,39 @@ pub record IsGranted (words : List Text) (refusal : Refusal) : Type 0 where
   pub shrink : (s f o c : Text) (m : Option Text) (t : Bool) → AsksShrink words s f o c m t → refusal ≡ Memory
   pub verify : (s f o c : Text) (m : Option Text) → AsksVerify words s f o c m → refusal ≡ Memory
 
-memory_told : (refusal : Refusal) (out out' err err' : Output) (status : ℕ) → refusal ≡ Memory
-    → Refuses refusal out out' err err' status → IsWantOfMemory err err' status
-memory_told refusal out out' err err' status is refuses =
-    (subst (λ m. Refuses m out out' err err' status) is refuses).1
+memory_told : (refusal : Refusal) (exit : Exit) → refusal ≡ Memory
+    → Refuses refusal exit → IsWantOfMemory exit.err exit.status
+memory_told refusal exit is refuses =
+    (subst (λ m. Refuses m exit) is refuses).1
 
 -- no file was opened, and why
 pub refused_opens : (words : List Text) → Asks words → (refusal : Refusal) → IsGranted words refusal
-    → (out out' err err' : Output) (status : ℕ) → Refuses refusal out out' err err' status
-    → AsksNothing words ⊎ IsWantOfMemory err err' status
-refused_opens words (for_plain path asks) refusal granted out out' err err' status r =
-    inr (memory_told refusal out out' err err' status (granted.plain path asks) r)
-refused_opens words (for_check schema file asks) refusal granted out out' err err' status r =
-    inr (memory_told refusal out out' err err' status (granted.check schema file asks) r)
-refused_opens words (for_shrink s f o c m t asks) refusal granted out out' err err' status r =
-    inr (memory_told refusal out out' err err' status (granted.shrink s f o c m t asks) r)
-refused_opens words (for_verify s f o c m asks) refusal granted out out' err err' status r =
-    inr (memory_told refusal out out' err err' status (granted.verify s f o c m asks) r)
-refused_opens words (for_nothing none) refusal granted out out' err err' status r = inl none
+    → (exit : Exit) → Refuses refusal exit
+    → AsksNothing words ⊎ IsWantOfMemory exit.err exit.status
+refused_opens words (for_plain path asks) refusal granted exit r =
+    inr (memory_told refusal exit (granted.plain path asks) r)
+refused_opens words (for_check schema file asks) refusal granted exit r =
+    inr (memory_told refusal exit (granted.check schema file asks) r)
+refused_opens words (for_shrink s f o c m t asks) refusal granted exit r =
+    inr (memory_told refusal exit (granted.shrink s f o c m t asks) r)
+refused_opens words (for_verify s f o c m asks) refusal granted exit r =
+    inr (memory_told refusal exit (granted.verify s f o c m asks) r)
+refused_opens words (for_nothing none) refusal granted exit r = inl none
 
-module _ {W : Type 0} (held : W → Option (List ℕ)) (has_failed : W → Bool) (words : List Text) (files : List ℕ → Stored)
+module _ (writers : Writers) (words : List Text) (files : List ℕ → Stored)
     (holds : List ℕ → Option (List ℕ))
-    (out out' err err' : Output) (status : ℕ) where
+    (exit : Exit) where
   -- what was done, where no file has changed
   pub refused_runs : Asks words → (refusal : Refusal) → IsGranted words refusal → CallFor words refusal
-      → Refuses refusal out out' err err' status → ((path : Text) → holds path ≡ (files path).contents)
-      → Runs held has_failed words files holds out out' err err' status
+      → Refuses refusal exit → ((path : Text) → holds path ≡ (files path).contents)
+      → Runs writers words files holds exit
   refused_runs (for_plain path asks) refusal granted calls r same =
-      inl (path, asks, memory_runs refusal (files path) out out' err err' status (granted.plain path asks) r)
+      inl (path, asks, memory_runs refusal (files path) exit (granted.plain path asks) r)
   refused_runs (for_check schema file asks) refusal granted calls r same = inr (inl (
     schema,
     file,
     asks,
-    memory_checks refusal (files schema) (files file) out out' err err' status (granted.check schema file asks) r,
+    memory_checks refusal (files schema) (files file) exit (granted.check schema file asks) r,
   ))
   refused_runs (for_shrink s f o c m t asks) refusal granted calls r same = inr (inr (inl (record {
     schema = s;
@@ -181,8 +181,8 @@ module _ {W : Type 0} (held : W → Option (List ℕ)) (has_failed : W → Bool)
     merge = m;
     strict = t;
     asks = asks;
-    makes = refused_smaller held has_failed refusal (asked_choice m) t (files s) (files f) (files o).contents (holds o)
-        (files c).contents (holds c) out out' err err' status (granted.shrink s f o c m t asks) r (same o) (same c);
+    makes = refused_smaller writers refusal (asked_choice m) t (files s) (files f) (written_at files holds o)
+        (written_at files holds c) exit (granted.shrink s f o c m t asks) r (same o) (same c);
   })))
   refused_runs (for_verify s f o c m asks) refusal granted calls r same = inr (inr (inr (inl (
     s,
@@ -191,7 +191,7 @@ module _ {W : Type 0} (held : W → Option (List ℕ)) (has_failed : W → Bool)
     c,
     m,
     asks,
-    refused_verifies refusal (asked_choice m) (files s) (files f) (files o) (files c) out out' err err' status
+    refused_verifies refusal (asked_choice m) (files s) (files f) (files o) (files c) exit
         (granted.verify s f o c m asks) r,
   ))))
   refused_runs (for_nothing none) refusal granted calls r same = inr (inr (inr (inr (none, (refusal, calls, r)))))

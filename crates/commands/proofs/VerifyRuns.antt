@@ -1,5 +1,5 @@
 -- What a run comes to that verifies an output.
-use Rattle.std.proofs.Common.{◌≡◌, Bool, true, false, List, ℕ, Option, Result, Ok, Err, IfSome, inl, inr, refl, sym, ap, ◌∙◌, subst, true≢false, arith}
+use Rattle.std.proofs.Common.{◌≡◌, true, false, List, ℕ, Option, Result, Ok, Err, IfSome, inl, inr, refl, sym, ap, ◌∙◌, subst, true≢false, arith}
 use Rattle.std.specs.Prelude.{◌⊎◌}
 use Rattle.conformance.specs.Choices.{Choice}
 use Rattle.command_line.specs.Commands.{AsksVerify}
@@ -19,7 +19,8 @@ use Rattle.verifying.specs.Verifying.{Verifies}
 use Rattle.verifying.specs.declared.proof.Proof.{Proof}
 use Rattle.verifying.proofs.Reading.{no_device}
 use Rattle.commands.specs.CommandLines.{CanFail, IsDevices}
-use Rattle.commands.specs.Endings.{Output, Prints}
+use Rattle.commands.specs.Endings.{Exit, IsUntouched, Prints}
+use Rattle.commands.specs.Merges.{Writers}
 use Rattle.commands.specs.Runs.{Refuses}
 use Rattle.commands.specs.Faults.{fault_ending}
 use Rattle.commands.specs.Verifies.{RunsVerify, verify_ending}
@@ -30,10 +31,10 @@ pub verify_fit : (outcome : Result Proof Fault) → IsFit (verify_ending outcome
 verify_fit (Ok proof) = inl refl
 verify_fit (Err fault) = fault_fit fault
 
-pub verify_says : (choice : Choice) (schema file output certificate : Stored) (out out' err err' : Output) (status : ℕ)
-    → RunsVerify choice schema file output certificate out out' err err' status → SaysAs out out' err err' status
-verify_says choice schema file output certificate out out' err err' status r =
-    ends_say (verify_ending r.outcome) out out' err err' status (verify_fit r.outcome) r.ends
+pub verify_says : (choice : Choice) (schema file output certificate : Stored) (exit : Exit)
+    → RunsVerify choice schema file output certificate exit → SaysAs exit
+verify_says choice schema file output certificate exit r =
+    ends_say (verify_ending r.outcome) exit (verify_fit r.outcome) r.ends
 
 -- ---- the schema
 
@@ -147,14 +148,14 @@ all_can choice schema file output certificate outcome (inl (fault, is, first)) =
       | inr other ↦ inr (λ never. other (sym (ap (λ o. wanted_of (verify_ending o)) is) ∙ never))
     ]
 
-pub verify_device : {W : Type 0} (has_failed : W → Bool) (words : List (List ℕ)) (files : List ℕ → Stored)
+pub verify_device : (writers : Writers) (words : List (List ℕ)) (files : List ℕ → Stored)
     (s f o c : List ℕ) (m : Option (List ℕ))
-    (choice : Choice) (out out' err err' : Output) (status : ℕ) → AsksVerify words s f o c m
-    → RunsVerify choice (files s) (files f) (files o) (files c) out out' err err' status → status ≡ 4
-    → IsDevices has_failed words files out out' err err'
-verify_device has_failed words files s f o c m choice out out' err err' status asks r is = λ fresh clean.
+    (choice : Choice) (exit : Exit) → AsksVerify words s f o c m
+    → RunsVerify choice (files s) (files f) (files o) (files c) exit → exit.status ≡ 4
+    → IsDevices writers words files exit
+verify_device writers words files s f o c m choice exit asks r is = λ fresh clean.
     elim (ends_by_devices (CanFail (files s) ⊎ CanFail (files f) ⊎ CanFail (files o) ⊎ CanFail (files c))
-    (verify_ending r.outcome) out out' err err' status r.ends
+    (verify_ending r.outcome) exit r.ends
     (all_can choice (files s) (files f) (files o) (files c) r.outcome r.verifies) is fresh clean) [
       | inl can ↦ inr (inr (inr (inr (inl (s, f, o, c, m, asks, can)))))
       | inr (inl failed) ↦ inl failed
@@ -163,19 +164,18 @@ verify_device has_failed words files s f o c m choice out out' err err' status a
 
 -- ---- want of memory
 
-pub memory_verifies : (choice : Choice) (schema file output certificate : Stored) (out out' err err' : Output)
-    (status : ℕ) → out' ≡ out → Prints err err' (line_of file_faults.Memory) 5 status
-    → RunsVerify choice schema file output certificate out out' err err' status
-memory_verifies choice schema file output certificate out out' err err' status same prints = record {
+pub memory_verifies : (choice : Choice) (schema file output certificate : Stored) (exit : Exit) → IsUntouched exit.out → Prints exit.err (line_of file_faults.Memory) 5 exit.status
+    → RunsVerify choice schema file output certificate exit
+memory_verifies choice schema file output certificate exit same prints = record {
   outcome = Err (faults.Memory);
   verifies = inl (faults.Memory, refl, no_schema (inr (inr refl)));
   ends = (same, prints);
 }
 
 pub refused_verifies : (refusal : Refusal) (choice : Choice) (schema file output certificate : Stored)
-    (out out' err err' : Output) (status : ℕ) → refusal ≡ refusals.Memory
-    → Refuses refusal out out' err err' status
-    → RunsVerify choice schema file output certificate out out' err err' status
-refused_verifies refusal choice schema file output certificate out out' err err' status is refuses =
-    let r = subst (λ m. Refuses m out out' err err' status) is refuses in
-    memory_verifies choice schema file output certificate out out' err err' status r.0 r.1
+    (exit : Exit) → refusal ≡ refusals.Memory
+    → Refuses refusal exit
+    → RunsVerify choice schema file output certificate exit
+refused_verifies refusal choice schema file output certificate exit is refuses =
+    let r = subst (λ m. Refuses m exit) is refuses in
+    memory_verifies choice schema file output certificate exit r.0 r.1

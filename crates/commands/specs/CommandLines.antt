@@ -8,42 +8,40 @@ use Rattle.command_line.specs.declared.usage.Request.TheVariants as requests
 use Rattle.command_line.specs.declared.usage.Refusal.{Refusal}
 use Rattle.files.specs.Stores.{Access, Opens, Stored, to_keep, to_read, to_write}
 use Rattle.files.specs.declared.fault.FileFault.TheVariants.{Memory}
-use Rattle.commands.specs.Endings.{Ends, Output}
-use Rattle.commands.specs.Merges.{MakesSmaller, asked_choice}
+use Rattle.shrinking.specs.Shrinking.{Written}
+use Rattle.commands.specs.Endings.{Ends, Exit, Output}
+use Rattle.commands.specs.Merges.{MakesSmaller, Writers, asked_choice}
 use Rattle.commands.specs.Runs.{Refuses, RunsCheck, RunsPlain}
 use Rattle.commands.specs.Verifies.{RunsVerify}
 
--- What is asked for was done, in a store of `files`. Behind it each file `holds` what stands there then; a writer of the
--- store has `held` what it was given, and tells whether it `has_failed`. `out` and `err` are the outputs before it, `out'`
--- and `err'` behind it.
-abbrev pub Does : {W : Type 0} → (W → Option (List ℕ)) → (W → Bool) → Request → (List ℕ → Stored)
-    → (List ℕ → Option (List ℕ)) → Output → Output → Output → Output → ℕ → Type 0
-Does held has_failed (requests.Plain path) files holds out out' err err' status =
-    RunsPlain (files path.now) out out' err err' status
-Does held has_failed (requests.Check schema file) files holds out out' err err' status =
-    RunsCheck (files schema.now) (files file.now) out out' err err' status
-Does held has_failed (requests.Shrink asked) files holds out out' err err' status =
-    MakesSmaller held has_failed (asked_choice (text_of asked.merge)) asked.strict (files asked.schema.now)
-    (files asked.file.now) (files asked.output.now).contents (holds asked.output.now)
-    (files asked.certificate.now).contents (holds asked.certificate.now) out out' err err' status
-Does held has_failed (requests.Verify asked) files holds out out' err err' status =
+-- what the path of a file held before a run, and what it holds behind it
+abbrev pub written_at : (List ℕ → Stored) → (List ℕ → Option (List ℕ)) → List ℕ → Written
+written_at files holds path = record { before = (files path).contents; after = holds path }
+
+-- What is asked for was done, in a store of `files`. Behind it each path `holds` what stands there then.
+abbrev pub Does : Writers → Request → (List ℕ → Stored) → (List ℕ → Option (List ℕ)) → Exit → Type 0
+Does writers (requests.Plain path) files holds exit = RunsPlain (files path.now) exit
+Does writers (requests.Check schema file) files holds exit = RunsCheck (files schema.now) (files file.now) exit
+Does writers (requests.Shrink asked) files holds exit =
+    MakesSmaller writers (asked_choice (text_of asked.merge)) asked.strict (files asked.schema.now)
+    (files asked.file.now) (written_at files holds asked.output.now)
+    (written_at files holds asked.certificate.now) exit
+Does writers (requests.Verify asked) files holds exit =
     RunsVerify (asked_choice (text_of asked.merge)) (files asked.schema.now) (files asked.file.now)
-    (files asked.output.now) (files asked.certificate.now) out out' err err' status
+    (files asked.output.now) (files asked.certificate.now) exit
 
 -- Nothing was done, and this was said for which the words call.
-abbrev pub RunsNothing : List (List ℕ) → Output → Output → Output → Output → ℕ → Type 0
-RunsNothing words out out' err err' status = (refusal : Refusal) × CallFor words refusal × Refuses refusal out out' err
-    err' status
+abbrev pub RunsNothing : List (List ℕ) → Exit → Type 0
+RunsNothing words exit = (refusal : Refusal) × CallFor words refusal × Refuses refusal exit
 
 -- The words ask for a check, and the file was checked against the schema.
-abbrev pub RunsChecked : List (List ℕ) → (List ℕ → Stored) → Output → Output → Output → Output → ℕ → Type 0
-RunsChecked words files out out' err err' status = (schema : List ℕ) × (file : List ℕ) × AsksCheck words schema file
-    × RunsCheck (files schema) (files file) out out' err err' status
+abbrev pub RunsChecked : List (List ℕ) → (List ℕ → Stored) → Exit → Type 0
+RunsChecked words files exit = (schema : List ℕ) × (file : List ℕ) × AsksCheck words schema file
+    × RunsCheck (files schema) (files file) exit
 
 -- The words ask for a smaller file and its certificate, and both were made of the file.
-pub record RunsMerged {W : Type 0} (held : W → Option (List ℕ)) (has_failed : W → Bool) (words : List (List ℕ))
-    (files : List ℕ → Stored) (holds : List ℕ → Option (List ℕ))
-    (out out' err err' : Output) (status : ℕ) : Type 0 where
+pub record RunsMerged (writers : Writers) (words : List (List ℕ)) (files : List ℕ → Stored)
+    (holds : List ℕ → Option (List ℕ)) (exit : Exit) : Type 0 where
   pub schema : List ℕ
   pub file : List ℕ
   pub output : List ℕ
@@ -51,42 +49,39 @@ pub record RunsMerged {W : Type 0} (held : W → Option (List ℕ)) (has_failed 
   pub merge : Option (List ℕ)
   pub strict : Bool
   pub asks : AsksShrink words schema file output certificate merge strict
-  pub makes : MakesSmaller held has_failed (asked_choice merge) strict (files schema) (files file)
-      (files output).contents (holds output)
-      (files certificate).contents (holds certificate) out out' err err' status
+  pub makes : MakesSmaller writers (asked_choice merge) strict (files schema) (files file)
+      (written_at files holds output) (written_at files holds certificate) exit
 
 -- The words ask whether an output is proved, and that was verified.
-abbrev pub RunsVerified : List (List ℕ) → (List ℕ → Stored) → Output → Output → Output → Output → ℕ → Type 0
-RunsVerified words files out out' err err' status = (schema : List ℕ) × (file : List ℕ) × (output : List ℕ)
-    × (certificate : List ℕ) × (merge : Option (List ℕ)) × AsksVerify words schema file output certificate merge
-    × RunsVerify (asked_choice merge) (files schema) (files file) (files output) (files certificate) out out' err err'
-    status
+abbrev pub RunsVerified : List (List ℕ) → (List ℕ → Stored) → Exit → Type 0
+RunsVerified words files exit = (schema : List ℕ) × (file : List ℕ) × (output : List ℕ) × (certificate : List ℕ)
+    × (merge : Option (List ℕ)) × AsksVerify words schema file output certificate merge
+    × RunsVerify (asked_choice merge) (files schema) (files file) (files output) (files certificate) exit
 
 -- The words ask for the normal text of a file, for a check, for a smaller file, or whether one is proved, and that was
 -- run; or they ask for nothing.
-abbrev pub Runs : {W : Type 0} → (W → Option (List ℕ)) → (W → Bool) → List (List ℕ) → (List ℕ → Stored)
-    → (List ℕ → Option (List ℕ)) → Output → Output → Output → Output → ℕ → Type 0
-Runs held has_failed words files holds out out' err err' status =
-    ((path : List ℕ) × AsksPlain words path × RunsPlain (files path) out out' err err' status)
-    ⊎ RunsChecked words files out out' err err' status
-    ⊎ RunsMerged held has_failed words files holds out out' err err' status
-    ⊎ RunsVerified words files out out' err err' status
-    ⊎ (AsksNothing words × RunsNothing words out out' err err' status)
+abbrev pub Runs : Writers → List (List ℕ) → (List ℕ → Stored) → (List ℕ → Option (List ℕ)) → Exit → Type 0
+Runs writers words files holds exit =
+    ((path : List ℕ) × AsksPlain words path × RunsPlain (files path) exit)
+    ⊎ RunsChecked words files exit
+    ⊎ RunsMerged writers words files holds exit
+    ⊎ RunsVerified words files exit
+    ⊎ (AsksNothing words × RunsNothing words exit)
 
 -- A file can fail: it isn't told that no read of it does.
 abbrev pub CanFail : Stored → Type 0
 CanFail file = file.fails ≡ Some false → ⊥
 
 -- One of these writers has failed.
-abbrev pub HasFailedWriter : {W : Type 0} → (W → Bool) → Type 0
-HasFailedWriter {W} has_failed = (writer : W) × (has_failed writer ≡ true)
+abbrev pub HasFailedWriter : Writers → Type 0
+HasFailedWriter writers = (writer : writers.Writer) × (writers.has_failed writer ≡ true)
 
 -- The words ask for a smaller file by a schema and a file of which one can fail, or a writer has failed.
-abbrev pub AsksShrinkFailing : {W : Type 0} → (W → Bool) → List (List ℕ) → (List ℕ → Stored) → Type 0
-AsksShrinkFailing has_failed words files = (schema : List ℕ) × (file : List ℕ) × (output : List ℕ)
+abbrev pub AsksShrinkFailing : Writers → List (List ℕ) → (List ℕ → Stored) → Type 0
+AsksShrinkFailing writers words files = (schema : List ℕ) × (file : List ℕ) × (output : List ℕ)
     × (certificate : List ℕ) × (merge : Option (List ℕ)) × (strict : Bool)
     × AsksShrink words schema file output certificate merge strict
-    × (CanFail (files schema) ⊎ CanFail (files file) ⊎ HasFailedWriter has_failed)
+    × (CanFail (files schema) ⊎ CanFail (files file) ⊎ HasFailedWriter writers)
 
 -- The words ask to verify by four files of which one can fail.
 abbrev pub AsksVerifyFailing : List (List ℕ) → (List ℕ → Stored) → Type 0
@@ -96,19 +91,18 @@ AsksVerifyFailing words files = (schema : List ℕ) × (file : List ℕ) × (out
 
 -- The words ask for a file that can fail, for a check of two of which one can, to verify by four of which one can, or for
 -- a smaller file by two of which one can, or where a writer has failed.
-abbrev pub AsksFailing : {W : Type 0} → (W → Bool) → List (List ℕ) → (List ℕ → Stored) → Type 0
-AsksFailing has_failed words files = ((path : List ℕ) × AsksPlain words path × CanFail (files path))
+abbrev pub AsksFailing : Writers → List (List ℕ) → (List ℕ → Stored) → Type 0
+AsksFailing writers words files = ((path : List ℕ) × AsksPlain words path × CanFail (files path))
     ⊎ ((schema : List ℕ) × (file : List ℕ) × AsksCheck words schema file
     × (CanFail (files schema) ⊎ CanFail (files file)))
     ⊎ AsksVerifyFailing words files
-    ⊎ AsksShrinkFailing has_failed words files
+    ⊎ AsksShrinkFailing writers words files
 
 -- Where no output has failed before, a device's status comes only where one has failed then, or a file can, or where
 -- the words ask for a smaller file and a writer has failed.
-abbrev pub IsDevices : {W : Type 0} → (W → Bool) → List (List ℕ) → (List ℕ → Stored) → Output → Output → Output → Output
-    → Type 0
-IsDevices has_failed words files out out' err err' = out.has_failed ≡ false → err.has_failed ≡ false
-    → (out'.has_failed ≡ true) ⊎ (err'.has_failed ≡ true) ⊎ AsksFailing has_failed words files
+abbrev pub IsDevices : Writers → List (List ℕ) → (List ℕ → Stored) → Exit → Type 0
+IsDevices writers words files exit = exit.out.before.has_failed ≡ false → exit.err.before.has_failed ≡ false
+    → (exit.out.after.has_failed ≡ true) ⊎ (exit.err.after.has_failed ≡ true) ⊎ AsksFailing writers words files
 
 -- The words ask for a smaller file, or a certificate, of this path.
 abbrev pub AsksToWrite : List (List ℕ) → List ℕ → Type 0
@@ -130,12 +124,12 @@ pub data AskToOpen (words : List (List ℕ)) : List Access → Type 0 where
       → AskToOpen words (to_read schema ∷ to_read file ∷ to_read output ∷ to_read certificate ∷ [])
 
 -- Memory ran out, and that was said on the error output.
-abbrev pub IsWantOfMemory : Output → Output → ℕ → Type 0
-IsWantOfMemory err err' status = Ends (Err Memory) err err' status
+abbrev pub IsWantOfMemory : Output → ℕ → Type 0
+IsWantOfMemory err status = Ends (Err Memory) err status
 
 -- The files that the words ask for were opened, each once, in the order of the words, and behind that those to be written
 -- were kept, the output first, whether or not anything was written; or none, where the words ask for none, or memory ran
 -- out before.
-abbrev pub OpensAsked : List (List ℕ) → Option (List Access) → Option (List Access) → Output → Output → ℕ → Type 0
-OpensAsked words old new err err' status = ((files : List Access) × AskToOpen words files × Opens old new files)
-    ⊎ ((new ≡ old) × (AsksNothing words ⊎ IsWantOfMemory err err' status))
+abbrev pub OpensAsked : List (List ℕ) → Option (List Access) → Option (List Access) → Output → ℕ → Type 0
+OpensAsked words old new err status = ((files : List Access) × AskToOpen words files × Opens old new files)
+    ⊎ ((new ≡ old) × (AsksNothing words ⊎ IsWantOfMemory err status))

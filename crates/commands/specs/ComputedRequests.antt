@@ -35,5 +35,5 @@ opened_by (Shrink asked) = smaller_opens asked
 opened_by (Verify asked) = proof_opens asked
 
 -- these were opened, or none, where memory ran out before
-abbrev pub OpensUnlessMemory : Option (List Access) → Option (List Access) → List Access → Output → Output → ℕ → Type 0
-OpensUnlessMemory old new files err err' status = Opens old new files ⊎ ((new ≡ old) × IsWantOfMemory err err' status)
+abbrev pub OpensUnlessMemory : Option (List Access) → Option (List Access) → List Access → Output → ℕ → Type 0
+OpensUnlessMemory old new files err status = Opens old new files ⊎ ((new ≡ old) × IsWantOfMemory err status)

@@ -9,7 +9,7 @@ use Rattle.faults.specs.Devices.{FileFailsAs, SchemaFailsAs, is_device}
 use Rattle.faults.specs.declared.fault.Fault.{Fault}
 use Rattle.shrinking.specs.Shrinking.{Shrinks, Written}
 use Rattle.shrinking.specs.declared.summary.Summary.{Summary}
-use Rattle.commands.specs.Endings.{Ending, EndsAs, Output, on_output, output_seen}
+use Rattle.commands.specs.Endings.{Ending, EndsAs, Exit, IsUntouched, Output, OutputState, on_output, state_seen}
 use Rattle.commands.specs.Faults.{fault_ending}
 
 -- the entities that words choose: the usual ones, or those of NAMES
@@ -23,51 +23,58 @@ shrink_ending (Ok m) = on_output (merge_text m.report m.kept m.rounds) 0
 shrink_ending (Err fault) = fault_ending fault
 
 -- what an output held before a run, and what it holds behind it
-abbrev pub written_in : Output → Output → Written
-written_in made made' = record { before = made.held; after = made'.held }
+abbrev pub written_in : Output → Written
+written_in out = record { before = out.before.held; after = out.after.held }
 
--- The run merged a file by a schema and a choice: `made` and `proof` are the smaller file and the certificate as they are
--- written, before and behind it. Each of both has failed exactly where that is the fault. The schema, where it is told
--- whether its reads fail, has failed just where they do, and so has the file, once the schema was read.
-pub record RunsShrink (choice : Choice) (strict : Bool) (schema file : Stored) (made made' proof proof' : Output)
-    (out out' err err' : Output) (status : ℕ) : Type 0 where
+-- The run merged a file by a schema and a choice, and wrote the output and the certificate. Each of both has failed
+-- exactly where that is the fault. The schema, where it is told whether its reads fail, has failed just where they do, and
+-- so has the file, once the schema was read.
+pub record RunsShrink (choice : Choice) (strict : Bool) (schema file : Stored) (output certificate : Output)
+    (exit : Exit) : Type 0 where
   pub outcome : Result Summary Fault
-  pub shrinks : Shrinks choice strict schema.contents file.contents (written_in made made') (written_in proof proof')
+  pub shrinks : Shrinks choice strict schema.contents file.contents (written_in output) (written_in certificate)
       outcome
   pub schema_fails : IfSome schema.fails (SchemaFailsAs outcome)
   pub file_fails : IfSome file.fails (FileFailsAs outcome)
-  pub made_fails : made.has_failed ≡ false → made'.has_failed ≡ is_device roles.Output outcome
-  pub proof_fails : proof.has_failed ≡ false → proof'.has_failed ≡ is_device roles.Certificate outcome
-  pub ends : EndsAs (shrink_ending outcome) out out' err err' status
+  pub output_fails : output.before.has_failed ≡ false → output.after.has_failed ≡ is_device roles.Output outcome
+  pub certificate_fails : certificate.before.has_failed ≡ false
+      → certificate.after.has_failed ≡ is_device roles.Certificate outcome
+  pub ends : EndsAs (shrink_ending outcome) exit
+
+-- The writers of a store: what each holds, where that is told, and whether it has failed.
+pub record Writers : Type 1 where
+  pub Writer : Type 0
+  pub held : Writer → Option (List ℕ)
+  pub has_failed : Writer → Bool
+
+abbrev pub writers_of : {W : Type 0} → (W → Option (List ℕ)) → (W → Bool) → Writers
+writers_of {W} held has_failed = record { Writer = W; held = held; has_failed = has_failed }
 
 -- Each of these writers tells what it holds.
-abbrev pub WritersTell : {W : Type 0} → (W → Option (List ℕ)) → Type 0
-WritersTell {W} held = (writer : W) → is_some (held writer) ≡ true
+abbrev pub WritersTell : Writers → Type 0
+WritersTell writers = (writer : writers.Writer) → is_some (writers.held writer) ≡ true
 
 -- Nothing was written yet, nor has a write failed; and that is told where each writer tells what it holds.
-pub record IsEmpty {W : Type 0} (held : W → Option (List ℕ)) (made : Output) : Type 0 where
-  pub fresh : made.has_failed ≡ false
-  pub nothing : IfSome made.held (λ bytes. bytes ≡ [])
-  pub told : WritersTell held → is_some made.held ≡ true
+pub record IsEmpty (writers : Writers) (state : OutputState) : Type 0 where
+  pub fresh : state.has_failed ≡ false
+  pub nothing : IfSome state.held (λ bytes. bytes ≡ [])
+  pub told : WritersTell writers → is_some state.held ≡ true
 
 -- It stands behind a run as one of these writers does, or as it stood before.
-abbrev pub StandsAsWriter : {W : Type 0} → (W → Option (List ℕ)) → (W → Bool) → Output → Output → Type 0
-StandsAsWriter {W} held has_failed made made' = (made' ≡ made)
-    ⊎ ((writer : W) × (made' ≡ output_seen held has_failed writer))
+abbrev pub StandsAsWriter : Writers → Output → Type 0
+StandsAsWriter writers out = IsUntouched out
+    ⊎ ((writer : writers.Writer) × (out.after ≡ state_seen writers.held writers.has_failed writer))
 
--- The run merged a file, and a store kept what was written: by what the paths of the smaller file and of the certificate
--- held before the run, and hold behind it. What was written, and whether that failed, is told by writers of the store.
-pub record MakesSmaller {W : Type 0} (held : W → Option (List ℕ)) (has_failed : W → Bool) (choice : Choice)
-    (strict : Bool) (schema file : Stored) (smaller smaller' proved proved' : Option (List ℕ))
-    (out out' err err' : Output) (status : ℕ) : Type 0 where
-  pub made : Output
-  pub made' : Output
-  pub proof : Output
-  pub proof' : Output
-  pub made_empty : IsEmpty held made
-  pub proof_empty : IsEmpty held proof
-  pub made_stands : StandsAsWriter held has_failed made made'
-  pub proof_stands : StandsAsWriter held has_failed proof proof'
-  pub runs : RunsShrink choice strict schema file made made' proof proof' out out' err err' status
-  pub smaller_holds : HoldsWritten made'.held smaller smaller'
-  pub proved_holds : HoldsWritten proof'.held proved proved'
+-- The run merged a file, and a store kept what was written: by what the paths of the output and of the certificate held
+-- before the run, and hold behind it. What was written, and whether that failed, is told by writers of the store.
+pub record MakesSmaller (writers : Writers) (choice : Choice) (strict : Bool) (schema file : Stored)
+    (at_output at_certificate : Written) (exit : Exit) : Type 0 where
+  pub output : Output
+  pub certificate : Output
+  pub output_empty : IsEmpty writers output.before
+  pub certificate_empty : IsEmpty writers certificate.before
+  pub output_stands : StandsAsWriter writers output
+  pub certificate_stands : StandsAsWriter writers certificate
+  pub runs : RunsShrink choice strict schema file output certificate exit
+  pub output_holds : HoldsWritten output.after.held at_output.before at_output.after
+  pub certificate_holds : HoldsWritten certificate.after.held at_certificate.before at_certificate.after

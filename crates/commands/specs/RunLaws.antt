@@ -3,96 +3,84 @@ use Rattle.std.specs.Prelude.{◌≡◌, ◌⊎◌, ℕ, List, Option, Some, Boo
 use Rattle.std.specs.Io.KnownBytes.{Keeps}
 use Rattle.command_line.specs.Commands.{AsksCheck, AsksPlain, AsksShrink, AsksVerify}
 use Rattle.files.specs.Stores.{Stored}
-use Rattle.commands.specs.CommandLines.{IsDevices, Runs}
-use Rattle.commands.specs.Endings.{Output}
-use Rattle.commands.specs.Merges.{MakesSmaller, asked_choice}
+use Rattle.commands.specs.CommandLines.{IsDevices, Runs, written_at}
+use Rattle.commands.specs.Endings.{Exit}
+use Rattle.commands.specs.Merges.{MakesSmaller, Writers, asked_choice}
 use Rattle.commands.specs.Runs.{RunsCheck, RunsPlain}
 use Rattle.commands.specs.Statuses.{IsStatus}
 use Rattle.commands.specs.Verifies.{RunsVerify}
 
--- what may hold of words, of files before a run and of what they hold behind it, of both outputs before and behind it,
--- and of its status
+-- what may hold of words, of files before a run and of what they hold behind it, and of what it leaves
 abbrev pub Saying : Type 1
-Saying = List (List ℕ) → (List ℕ → Stored) → (List ℕ → Option (List ℕ)) → Output → Output → Output → Output → ℕ → Type 0
+Saying = List (List ℕ) → (List ℕ → Stored) → (List ℕ → Option (List ℕ)) → Exit → Type 0
 
 -- It holds of each run.
-abbrev pub OfRuns : {W : Type 0} → (W → Option (List ℕ)) → (W → Bool) → Saying → Type 0
-OfRuns held has_failed P = (words : List (List ℕ)) (files : List ℕ → Stored) (holds : List ℕ → Option (List ℕ))
-    (out out' err err' : Output) (status : ℕ) → Runs held has_failed words files holds out out' err err' status
-    → P words files holds out out' err err' status
+abbrev pub OfRuns : Writers → Saying → Type 0
+OfRuns writers P = (words : List (List ℕ)) (files : List ℕ → Stored) (holds : List ℕ → Option (List ℕ)) (exit : Exit)
+    → Runs writers words files holds exit → P words files holds exit
 
 -- Where the words ask for the normal text of a file, that was done with what the file held.
-abbrev pub PlainIsRun : {W : Type 0} → (W → Option (List ℕ)) → (W → Bool) → Type 0
-PlainIsRun held has_failed = OfRuns held has_failed
-    (λ words files holds out out' err err' status. (path : List ℕ) → AsksPlain words path
-    → RunsPlain (files path) out out' err err' status)
+abbrev pub PlainIsRun : Writers → Type 0
+PlainIsRun writers = OfRuns writers (λ words files holds exit. (path : List ℕ) → AsksPlain words path
+    → RunsPlain (files path) exit)
 
 -- Where they ask for a check, the file was checked against the schema, by what both held.
-abbrev pub CheckIsRun : {W : Type 0} → (W → Option (List ℕ)) → (W → Bool) → Type 0
-CheckIsRun held has_failed = OfRuns held has_failed
-    (λ words files holds out out' err err' status. (schema : List ℕ) → (file : List ℕ)
-    → AsksCheck words schema file → RunsCheck (files schema) (files file) out out' err err' status)
+abbrev pub CheckIsRun : Writers → Type 0
+CheckIsRun writers = OfRuns writers (λ words files holds exit. (schema : List ℕ) → (file : List ℕ)
+    → AsksCheck words schema file → RunsCheck (files schema) (files file) exit)
 
 -- Where they ask for a smaller file and its certificate, these were made of what the schema and the file held before, and
 -- both paths hold what was written, or what they held.
-abbrev pub ShrinkIsRun : {W : Type 0} → (W → Option (List ℕ)) → (W → Bool) → Type 0
-ShrinkIsRun held has_failed = OfRuns held has_failed
-    (λ words files holds out out' err err' status. (schema : List ℕ) → (file : List ℕ)
-    → (smaller : List ℕ) → (certificate : List ℕ) → (merge : Option (List ℕ)) → (strict : Bool)
-    → AsksShrink words schema file smaller certificate merge strict
-    → MakesSmaller held has_failed (asked_choice merge) strict (files schema) (files file)
-    (files smaller).contents (holds smaller) (files certificate).contents (holds certificate) out out' err err' status)
+abbrev pub ShrinkIsRun : Writers → Type 0
+ShrinkIsRun writers = OfRuns writers (λ words files holds exit. (schema : List ℕ) → (file : List ℕ)
+    → (output : List ℕ) → (certificate : List ℕ) → (merge : Option (List ℕ)) → (strict : Bool)
+    → AsksShrink words schema file output certificate merge strict
+    → MakesSmaller writers (asked_choice merge) strict (files schema) (files file) (written_at files holds output)
+    (written_at files holds certificate) exit)
 
 -- Where they ask whether an output is proved, that was verified by what the four files held.
-abbrev pub VerifyIsRun : {W : Type 0} → (W → Option (List ℕ)) → (W → Bool) → Type 0
-VerifyIsRun held has_failed = OfRuns held has_failed
-    (λ words files holds out out' err err' status. (schema : List ℕ) → (file : List ℕ)
-    → (smaller : List ℕ) → (certificate : List ℕ) → (merge : Option (List ℕ))
-    → AsksVerify words schema file smaller certificate merge
-    → RunsVerify (asked_choice merge) (files schema) (files file) (files smaller) (files certificate) out out' err err'
-    status)
+abbrev pub VerifyIsRun : Writers → Type 0
+VerifyIsRun writers = OfRuns writers (λ words files holds exit. (schema : List ℕ) → (file : List ℕ)
+    → (output : List ℕ) → (certificate : List ℕ) → (merge : Option (List ℕ))
+    → AsksVerify words schema file output certificate merge
+    → RunsVerify (asked_choice merge) (files schema) (files file) (files output) (files certificate) exit)
 
 -- The status is one that the program has.
-abbrev pub StatusIsKnown : {W : Type 0} → (W → Option (List ℕ)) → (W → Bool) → Type 0
-StatusIsKnown held has_failed = OfRuns held has_failed (λ words files holds out out' err err' status. IsStatus status)
+abbrev pub StatusIsKnown : Writers → Type 0
+StatusIsKnown writers = OfRuns writers (λ words files holds exit. IsStatus exit.status)
 
 -- Nothing went out but where all was done, where a file breaks its schema, and where a device failed.
-abbrev pub NothingWritten : {W : Type 0} → (W → Option (List ℕ)) → (W → Bool) → Type 0
-NothingWritten held has_failed = OfRuns held has_failed (λ words files holds out out' err err' status.
-    (status ≡ 0) ⊎ (status ≡ 1) ⊎ (status ≡ 4) ⊎ Keeps out.held out'.held)
+abbrev pub NothingWritten : Writers → Type 0
+NothingWritten writers = OfRuns writers (λ words files holds exit. (exit.status ≡ 0) ⊎ (exit.status ≡ 1)
+    ⊎ (exit.status ≡ 4) ⊎ Keeps exit.out.before.held exit.out.after.held)
 
 -- A device's status comes where one failed, or where a file that was asked for can fail; or, where a smaller file was
 -- asked for, a writer has failed.
-abbrev pub DeviceIsTold : {W : Type 0} → (W → Option (List ℕ)) → (W → Bool) → Type 0
-DeviceIsTold held has_failed = OfRuns held has_failed (λ words files holds out out' err err' status. status ≡ 4
-    → IsDevices has_failed words files out out' err err')
+abbrev pub DeviceIsTold : Writers → Type 0
+DeviceIsTold writers =
+    OfRuns writers (λ words files holds exit. exit.status ≡ 4 → IsDevices writers words files exit)
 
 -- Where the output failed, or the error output, the status is a device's.
-abbrev pub OutputIsTold : {W : Type 0} → (W → Option (List ℕ)) → (W → Bool) → Type 0
-OutputIsTold held has_failed = OfRuns held has_failed
-    (λ words files holds out out' err err' status. out.has_failed ≡ false
-    → out'.has_failed ≡ true → status ≡ 4)
+abbrev pub OutputIsTold : Writers → Type 0
+OutputIsTold writers = OfRuns writers (λ words files holds exit. exit.out.before.has_failed ≡ false
+    → exit.out.after.has_failed ≡ true → exit.status ≡ 4)
 
-abbrev pub ErrorIsTold : {W : Type 0} → (W → Option (List ℕ)) → (W → Bool) → Type 0
-ErrorIsTold held has_failed = OfRuns held has_failed
-    (λ words files holds out out' err err' status. err.has_failed ≡ false
-    → err'.has_failed ≡ true → status ≡ 4)
+abbrev pub ErrorIsTold : Writers → Type 0
+ErrorIsTold writers = OfRuns writers (λ words files holds exit. exit.err.before.has_failed ≡ false
+    → exit.err.after.has_failed ≡ true → exit.status ≡ 4)
 
 -- Where each read of the file whose normal text is asked for fails, the status says so; or memory ran out.
-abbrev pub PlainFileIsTold : {W : Type 0} → (W → Option (List ℕ)) → (W → Bool) → Type 0
-PlainFileIsTold held has_failed = OfRuns held has_failed (λ words files holds out out' err err' status. (path : List ℕ)
-    → AsksPlain words path → (files path).fails ≡ Some true → (status ≡ 4) ⊎ (status ≡ 5))
+abbrev pub PlainFileIsTold : Writers → Type 0
+PlainFileIsTold writers = OfRuns writers (λ words files holds exit. (path : List ℕ) → AsksPlain words path
+    → (files path).fails ≡ Some true → (exit.status ≡ 4) ⊎ (exit.status ≡ 5))
 
 -- So it does where each read of the schema of a check fails.
-abbrev pub CheckSchemaIsTold : {W : Type 0} → (W → Option (List ℕ)) → (W → Bool) → Type 0
-CheckSchemaIsTold held has_failed = OfRuns held has_failed
-    (λ words files holds out out' err err' status. (schema : List ℕ)
-    → (file : List ℕ) → AsksCheck words schema file → (files schema).fails ≡ Some true
-    → (status ≡ 4) ⊎ (status ≡ 5))
+abbrev pub CheckSchemaIsTold : Writers → Type 0
+CheckSchemaIsTold writers = OfRuns writers (λ words files holds exit. (schema : List ℕ) → (file : List ℕ)
+    → AsksCheck words schema file → (files schema).fails ≡ Some true → (exit.status ≡ 4) ⊎ (exit.status ≡ 5))
 
 -- The file of a check isn't read where the text or a name of the schema is at fault.
-abbrev pub CheckFileIsTold : {W : Type 0} → (W → Option (List ℕ)) → (W → Bool) → Type 0
-CheckFileIsTold held has_failed = OfRuns held has_failed
-    (λ words files holds out out' err err' status. (schema : List ℕ)
-    → (file : List ℕ) → AsksCheck words schema file → (files file).fails ≡ Some true
-    → (status ≡ 2) ⊎ (status ≡ 4) ⊎ (status ≡ 5))
+abbrev pub CheckFileIsTold : Writers → Type 0
+CheckFileIsTold writers = OfRuns writers (λ words files holds exit. (schema : List ℕ) → (file : List ℕ)
+    → AsksCheck words schema file → (files file).fails ≡ Some true
+    → (exit.status ≡ 2) ⊎ (exit.status ≡ 4) ⊎ (exit.status ≡ 5))

@@ -2,7 +2,7 @@
 
 ghost use Rattle.std.specs.Prelude.{◌≡◌, ◌⊎◌, false, true};
 ghost use Rattle.files.specs.Stores.{reader_seen};
-ghost use Rattle.commands.specs.Endings.{output_seen};
+ghost use Rattle.commands.specs.Endings.{exit_of, output_seen};
 ghost use Rattle.commands.specs.Runs.{RunsCheck};
 ghost use Rattle.commands.specs.Statuses.{report_status};
 
@@ -45,8 +45,8 @@ pub fn run_check<S: Source, F: Source, O: Sink, E: Sink>(
 ) -> u8
     ensures runs { RunsCheck
         (reader_seen S.to_come S.fails schema.old) (reader_seen F.to_come F.fails file.old)
-        (output_seen O.held O.has_failed out.old) (output_seen O.held O.has_failed out.new)
-        (output_seen E.held E.has_failed err.old) (output_seen E.held E.has_failed err.new) result }
+        (exit_of (output_seen O.held O.has_failed out.old out.new)
+        (output_seen E.held E.has_failed err.old err.new) result) }
     // A device's status comes only where one fails in the run, if none had before.
     ensures device { result ≡ 4
         → S.has_failed schema.old ≡ false → F.has_failed file.old ≡ false

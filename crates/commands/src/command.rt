@@ -9,7 +9,7 @@ ghost use Rattle.files.specs.Stores.{Opens, file_seen};
 ghost use Rattle.files.specs.declared.fault.FileFault.TheVariants.{Device};
 ghost use Rattle.files.specs.declared.fault.Role.TheVariants.{File};
 ghost use Rattle.pin_choices.specs.Chosen.{choice_of};
-ghost use Rattle.commands.specs.CommandLines.{AsksToWrite, Does, OpensAsked, Runs};
+ghost use Rattle.commands.specs.CommandLines.{AsksToWrite, Does, OpensAsked, Runs, written_at};
 ghost use Rattle.commands.specs.ComputedRequests.{
   IsApart,
   IsWritten,
@@ -18,8 +18,8 @@ ghost use Rattle.commands.specs.ComputedRequests.{
   proof_opens,
   smaller_opens,
 };
-ghost use Rattle.commands.specs.Endings.{Prints, output_seen};
-ghost use Rattle.commands.specs.Merges.{MakesSmaller, asked_choice};
+ghost use Rattle.commands.specs.Endings.{Prints, exit_of, output_seen};
+ghost use Rattle.commands.specs.Merges.{MakesSmaller, asked_choice, writers_of};
 ghost use Rattle.commands.specs.Runs.{Refuses};
 ghost use Rattle.commands.specs.Statuses.{IsStatus};
 ghost use Rattle.commands.specs.Verifies.{RunsVerify};
@@ -43,8 +43,8 @@ use std::hash::RandomState;
 pub fn refuse<O: Sink, E: Sink>(refusal: Refusal, out: &mut O, err: &mut E) -> u8
     ensures status { IsStatus result }
     ensures refuses { Refuses refusal
-        (output_seen O.held O.has_failed out.old) (output_seen O.held O.has_failed out.new)
-        (output_seen E.held E.has_failed err.old) (output_seen E.held E.has_failed err.new) result }
+        (exit_of (output_seen O.held O.has_failed out.old out.new)
+        (output_seen E.held E.has_failed err.old err.new) result) }
     // Nothing goes out but where a text was asked for, and where a device fails.
     ensures unwritten { (result ≡ 0) ⊎ (result ≡ 4) ⊎ Keeps (O.held out.old) (O.held out.new) }
     // Where an output fails, the status says so.
@@ -61,7 +61,7 @@ pub fn refuse<O: Sink, E: Sink>(refusal: Refusal, out: &mut O, err: &mut E) -> u
 /// Prints that no file can be read, and answers the status: where the system gives no keys by which
 /// names can be hashed.
 pub fn refuse_to_read<E: Sink>(err: &mut E) -> u8
-    ensures { Prints (output_seen E.held E.has_failed err.old) (output_seen E.held E.has_failed err.new)
+    ensures { Prints (output_seen E.held E.has_failed err.old err.new)
         (line_of (Device File 0)) 4 result }
 {
     report(
@@ -96,15 +96,15 @@ fn shrink_by<'p, S: Store<'p>, O: Sink, E: Sink>(
     err: &mut E,
 ) -> u8
     requires apart { asked.output.now ≡ asked.certificate.now → ⊥ }
-    ensures makes { MakesSmaller S.Writer.held S.Writer.has_failed
+    ensures makes { MakesSmaller (writers_of S.Writer.held S.Writer.has_failed)
         (choice_of choice.now) choice.now.strict
         (file_seen S.contents S.fails store.old asked.entry.schema.now)
         (file_seen S.contents S.fails store.old asked.entry.file.now)
-        (S.contents store.old asked.entry.output.now) (S.contents store.new asked.entry.output.now)
-        (S.contents store.old asked.entry.certificate.now)
-        (S.contents store.new asked.entry.certificate.now)
-        (output_seen O.held O.has_failed out.old) (output_seen O.held O.has_failed out.new)
-        (output_seen E.held E.has_failed err.old) (output_seen E.held E.has_failed err.new) result }
+        (written_at (file_seen S.contents S.fails store.old) (S.contents store.new) asked.entry.output.now)
+        (written_at (file_seen S.contents S.fails store.old) (S.contents store.new)
+        asked.entry.certificate.now)
+        (exit_of (output_seen O.held O.has_failed out.old out.new)
+        (output_seen E.held E.has_failed err.old err.new) result) }
     ensures opened { Opens (S.opened store.old) (S.opened store.new) (smaller_opens asked.entry) }
     ensures kept { (path : List ℕ) → (path ≡ asked.entry.output.now → ⊥)
         → (path ≡ asked.entry.certificate.now → ⊥)
@@ -112,7 +112,7 @@ fn shrink_by<'p, S: Store<'p>, O: Sink, E: Sink>(
 {
     let mut schema = store.reader(asked.schema);
     let mut file = store.reader(asked.file);
-    let mut smaller = store.writer(asked.output);
+    let mut output = store.writer(asked.output);
     let mut certificate = store.writer(asked.certificate);
     let status = run_shrink(
         alloc,
@@ -120,12 +120,12 @@ fn shrink_by<'p, S: Store<'p>, O: Sink, E: Sink>(
         &mut schema,
         choice,
         &mut file,
-        &mut smaller,
+        &mut output,
         &mut certificate,
         out,
         err,
     );
-    store.keep(asked.output, smaller);
+    store.keep(asked.output, output);
     store.keep(asked.certificate, certificate);
     status
 }
@@ -140,18 +140,17 @@ fn shrink_asked<'p, S: Store<'p>, O: Sink, E: Sink>(
     err: &mut E,
 ) -> u8
     requires apart { asked.output.now ≡ asked.certificate.now → ⊥ }
-    ensures makes { MakesSmaller S.Writer.held S.Writer.has_failed
+    ensures makes { MakesSmaller (writers_of S.Writer.held S.Writer.has_failed)
         (asked_choice (text_of asked.entry.merge)) asked.entry.strict
         (file_seen S.contents S.fails store.old asked.entry.schema.now)
         (file_seen S.contents S.fails store.old asked.entry.file.now)
-        (S.contents store.old asked.entry.output.now) (S.contents store.new asked.entry.output.now)
-        (S.contents store.old asked.entry.certificate.now)
-        (S.contents store.new asked.entry.certificate.now)
-        (output_seen O.held O.has_failed out.old) (output_seen O.held O.has_failed out.new)
-        (output_seen E.held E.has_failed err.old) (output_seen E.held E.has_failed err.new) result }
+        (written_at (file_seen S.contents S.fails store.old) (S.contents store.new) asked.entry.output.now)
+        (written_at (file_seen S.contents S.fails store.old) (S.contents store.new)
+        asked.entry.certificate.now)
+        (exit_of (output_seen O.held O.has_failed out.old out.new)
+        (output_seen E.held E.has_failed err.old err.new) result) }
     ensures opened { OpensUnlessMemory (S.opened store.old) (S.opened store.new)
-        (smaller_opens asked.entry) (output_seen E.held E.has_failed err.old)
-        (output_seen E.held E.has_failed err.new) result }
+        (smaller_opens asked.entry) (output_seen E.held E.has_failed err.old err.new) result }
     ensures kept { (path : List ℕ) → (path ≡ asked.entry.output.now → ⊥)
         → (path ≡ asked.entry.certificate.now → ⊥)
         → S.contents store.new path ≡ S.contents store.old path }
@@ -176,11 +175,10 @@ fn verify_asked<'p, S: Store<'p>, O: Sink, E: Sink>(
         (file_seen S.contents S.fails store.old asked.entry.file.now)
         (file_seen S.contents S.fails store.old asked.entry.output.now)
         (file_seen S.contents S.fails store.old asked.entry.certificate.now)
-        (output_seen O.held O.has_failed out.old) (output_seen O.held O.has_failed out.new)
-        (output_seen E.held E.has_failed err.old) (output_seen E.held E.has_failed err.new) result }
+        (exit_of (output_seen O.held O.has_failed out.old out.new)
+        (output_seen E.held E.has_failed err.old err.new) result) }
     ensures opened { OpensUnlessMemory (S.opened store.old) (S.opened store.new)
-        (proof_opens asked.entry) (output_seen E.held E.has_failed err.old)
-        (output_seen E.held E.has_failed err.new) result }
+        (proof_opens asked.entry) (output_seen E.held E.has_failed err.old err.new) result }
     ensures kept { (path : List ℕ) → S.contents store.new path ≡ S.contents store.old path }
 {
     let choice = match chosen(alloc, asked.merge, false) {
@@ -189,7 +187,7 @@ fn verify_asked<'p, S: Store<'p>, O: Sink, E: Sink>(
     };
     let mut schema = store.reader(asked.schema);
     let mut file = store.reader(asked.file);
-    let mut smaller = store.reader(asked.output);
+    let mut output = store.reader(asked.output);
     let mut certificate = store.reader(asked.certificate);
     run_verify(
         alloc,
@@ -197,7 +195,7 @@ fn verify_asked<'p, S: Store<'p>, O: Sink, E: Sink>(
         &mut schema,
         &choice,
         &mut file,
-        &mut smaller,
+        &mut output,
         &mut certificate,
         out,
         err,
@@ -214,13 +212,12 @@ fn run<'p, S: Store<'p>, O: Sink, E: Sink>(
     err: &mut E,
 ) -> u8
     requires apart { IsApart request }
-    ensures does { Does S.Writer.held S.Writer.has_failed request.entry
+    ensures does { Does (writers_of S.Writer.held S.Writer.has_failed) request.entry
         (file_seen S.contents S.fails store.old) (S.contents store.new)
-        (output_seen O.held O.has_failed out.old) (output_seen O.held O.has_failed out.new)
-        (output_seen E.held E.has_failed err.old) (output_seen E.held E.has_failed err.new) result }
+        (exit_of (output_seen O.held O.has_failed out.old out.new)
+        (output_seen E.held E.has_failed err.old err.new) result) }
     ensures opened { OpensUnlessMemory (S.opened store.old) (S.opened store.new)
-        (opened_by request.entry) (output_seen E.held E.has_failed err.old)
-        (output_seen E.held E.has_failed err.new) result }
+        (opened_by request.entry) (output_seen E.held E.has_failed err.old err.new) result }
     // No other file changes.
     ensures kept { (path : List ℕ) → (IsWritten request.entry path → ⊥)
         → S.contents store.new path ≡ S.contents store.old path }
@@ -262,10 +259,10 @@ pub fn run_command<'p, S: Store<'p>, O: Sink, E: Sink>(
     out: &mut O,
     err: &mut E,
 ) -> u8
-    ensures runs { Runs S.Writer.held S.Writer.has_failed (texts words.now)
+    ensures runs { Runs (writers_of S.Writer.held S.Writer.has_failed) (texts words.now)
         (file_seen S.contents S.fails store.old) (S.contents store.new)
-        (output_seen O.held O.has_failed out.old) (output_seen O.held O.has_failed out.new)
-        (output_seen E.held E.has_failed err.old) (output_seen E.held E.has_failed err.new) result }
+        (exit_of (output_seen O.held O.has_failed out.old out.new)
+        (output_seen E.held E.has_failed err.old err.new) result) }
     // No other file changes than those that a smaller one is asked for by.
     ensures kept { (path : List ℕ) → (AsksToWrite (texts words.now) path → ⊥)
         → S.contents store.new path ≡ S.contents store.old path }
@@ -273,7 +270,7 @@ pub fn run_command<'p, S: Store<'p>, O: Sink, E: Sink>(
     // the output first; or none, where memory runs out before. Nothing is done to the store where the
     // words ask for none.
     ensures opened { OpensAsked (texts words.now) (S.opened store.old) (S.opened store.new)
-        (output_seen E.held E.has_failed err.old) (output_seen E.held E.has_failed err.new) result }
+        (output_seen E.held E.has_failed err.old err.new) result }
     ensures unopened { AsksNothing (texts words.now) → store.new ≡ store.old }
 {
     match read_words(alloc, words) {

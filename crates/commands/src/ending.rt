@@ -60,7 +60,7 @@ fn send<S: Sink>(out: &mut S, text: &str) -> Result<(), Failed>
 /// Prints the text, and answers the status: this one, or the device's where the text can't be
 /// printed.
 pub fn print<S: Sink>(out: &mut S, text: &str, status: u8) -> u8
-    ensures { Prints (output_seen S.held S.has_failed out.old) (output_seen S.held S.has_failed out.new)
+    ensures { Prints (output_seen S.held S.has_failed out.old out.new)
         text.now status result }
 {
     match send(out, text) {
@@ -72,7 +72,7 @@ pub fn print<S: Sink>(out: &mut S, text: &str, status: u8) -> u8
 /// Prints the line of a file's fault, and answers its status, or the device's where the line can't be
 /// printed.
 pub fn report<E: Sink>(fault: FileFault, err: &mut E) -> u8
-    ensures { Prints (output_seen E.held E.has_failed err.old) (output_seen E.held E.has_failed err.new)
+    ensures { Prints (output_seen E.held E.has_failed err.old err.new)
         (line_of fault) (fault_status fault) result }
 {
     match print_line(err, fault) {
@@ -84,7 +84,7 @@ pub fn report<E: Sink>(fault: FileFault, err: &mut E) -> u8
 /// Ends a run for what a command came to, and answers the status.
 pub fn finish<E: Sink>(outcome: Result<(), FileFault>, err: &mut E) -> u8
     ensures ends { Ends outcome
-        (output_seen E.held E.has_failed err.old) (output_seen E.held E.has_failed err.new) result }
+        (output_seen E.held E.has_failed err.old err.new) result }
     ensures silent { OnOk outcome (err.new ≡ err.old) }
 {
     match outcome {

@@ -15,7 +15,7 @@ ghost use Rattle.devices.specs.Prints as printers;
 ghost use Rattle.reports.specs.Lines.{report_text, unchecked_line};
 ghost use Rattle.reports.specs.MergeLines.{strict_line};
 ghost use Rattle.reports.specs.SchemaLines.{schema_line};
-ghost use Rattle.commands.specs.Endings.{EndsAs, Prints, on_both, on_output, output_seen};
+ghost use Rattle.commands.specs.Endings.{EndsAs, Prints, exit_of, on_both, on_output, output_seen};
 ghost use Rattle.commands.specs.Faults.{
   fault_ending,
   refusal_line,
@@ -53,7 +53,7 @@ fn status_of_schema(fault: &SchemaFault) -> u8
 // Prints the line of a schema's fault, and answers its status, or the device's where the line can't
 // be printed.
 fn tell_schema<E: Sink>(fault: &SchemaFault, err: &mut E) -> u8
-    ensures { Prints (output_seen E.held E.has_failed err.old) (output_seen E.held E.has_failed err.new)
+    ensures { Prints (output_seen E.held E.has_failed err.old err.new)
         (schema_line fault.now) (schema_status fault.now) result }
 {
     match print_schema_fault(err, fault) {
@@ -65,8 +65,8 @@ fn tell_schema<E: Sink>(fault: &SchemaFault, err: &mut E) -> u8
 /// Prints a report on `out`, and answers this status; or tells that the output failed.
 pub fn tell_report<O: Sink, E: Sink>(found: &Report<'_>, status: u8, out: &mut O, err: &mut E) -> u8
     ensures { EndsAs (on_output (report_text found.now) status)
-        (output_seen O.held O.has_failed out.old) (output_seen O.held O.has_failed out.new)
-        (output_seen E.held E.has_failed err.old) (output_seen E.held E.has_failed err.new) result }
+        (exit_of (output_seen O.held O.has_failed out.old out.new)
+        (output_seen E.held E.has_failed err.old err.new) result) }
 {
     match print_report(out, found) {
         Ok(()) => status,
@@ -76,7 +76,7 @@ pub fn tell_report<O: Sink, E: Sink>(found: &Report<'_>, status: u8, out: &mut O
 
 // Prints that so many parts of a schema aren't checked.
 fn refuse_parts<E: Sink>(count: u64, err: &mut E) -> u8
-    ensures { Prints (output_seen E.held E.has_failed err.old) (output_seen E.held E.has_failed err.new)
+    ensures { Prints (output_seen E.held E.has_failed err.old err.new)
         (strict_line count) 1 result }
 {
     match print_strict(err, count) {
@@ -89,8 +89,8 @@ fn refuse_parts<E: Sink>(count: u64, err: &mut E) -> u8
 // there are; or tells that the output failed.
 fn tell_parts<O: Sink, E: Sink>(parts: &Vec<Unchecked>, out: &mut O, err: &mut E) -> u8
     ensures { EndsAs (on_both (flat_map unchecked_line parts.now.items) (strict_line (length parts.now.items)) 1)
-        (output_seen O.held O.has_failed out.old) (output_seen O.held O.has_failed out.new)
-        (output_seen E.held E.has_failed err.old) (output_seen E.held E.has_failed err.new) result }
+        (exit_of (output_seen O.held O.has_failed out.old out.new)
+        (output_seen E.held E.has_failed err.old err.new) result) }
 {
     match print_unchecked_parts(out, parts) {
         Ok(()) => refuse_parts(parts.len() as u64, err),
@@ -105,7 +105,7 @@ fn tell_findings<E: Sink>(
     rules: &[RuleFinding<'_>],
     err: &mut E,
 ) -> u8
-    ensures { Prints (output_seen E.held E.has_failed err.old) (output_seen E.held E.has_failed err.new)
+    ensures { Prints (output_seen E.held E.has_failed err.old err.new)
         (refused_lines role findings.now rules.now) 1 result }
 {
     match print_findings_of(err, role.name().as_bytes(), findings, rules) {
@@ -153,7 +153,7 @@ fn print_refusal_line<E: Sink>(err: &mut E, refusal: Refusal) -> Result<(), Writ
 
 // Tells what is wrong with a certificate.
 fn tell_refusal<E: Sink>(refusal: Refusal, err: &mut E) -> u8
-    ensures { Prints (output_seen E.held E.has_failed err.old) (output_seen E.held E.has_failed err.new)
+    ensures { Prints (output_seen E.held E.has_failed err.old err.new)
         (refusal_line refusal) 6 result }
 {
     match print_refusal_line(err, refusal) {
@@ -170,8 +170,8 @@ fn tell_refusal<E: Sink>(refusal: Refusal, err: &mut E) -> u8
 /// else stands on `err` alone. Where that can't be printed the status is the device's.
 pub fn tell_fault<O: Sink, E: Sink>(fault: &Fault<'_>, out: &mut O, err: &mut E) -> u8
     ensures { EndsAs (fault_ending fault.now)
-        (output_seen O.held O.has_failed out.old) (output_seen O.held O.has_failed out.new)
-        (output_seen E.held E.has_failed err.old) (output_seen E.held E.has_failed err.new) result }
+        (exit_of (output_seen O.held O.has_failed out.old out.new)
+        (output_seen E.held E.has_failed err.old err.new) result) }
 {
     match fault {
         Fault::Schema(fault) => tell_schema(fault, err),

@@ -1,5 +1,6 @@
 //! Laws of runs of the command line.
 
+ghost use Rattle.commands.specs.Merges.{writers_of};
 ghost use Rattle.commands.specs.RunLaws.{
   CheckFileIsTold,
   CheckIsRun,
@@ -19,26 +20,26 @@ use files::store::Store;
 
 /// A run does what its words ask for, by what the files of the store hold.
 pub fn what_is_asked_for_is_run<'p, S: Store<'p>>()
-    ensures plain { PlainIsRun S.Writer.held S.Writer.has_failed }
-    ensures check { CheckIsRun S.Writer.held S.Writer.has_failed }
-    ensures shrink { ShrinkIsRun S.Writer.held S.Writer.has_failed }
-    ensures verify { VerifyIsRun S.Writer.held S.Writer.has_failed }
+    ensures plain { PlainIsRun (writers_of S.Writer.held S.Writer.has_failed) }
+    ensures check { CheckIsRun (writers_of S.Writer.held S.Writer.has_failed) }
+    ensures shrink { ShrinkIsRun (writers_of S.Writer.held S.Writer.has_failed) }
+    ensures verify { VerifyIsRun (writers_of S.Writer.held S.Writer.has_failed) }
 {}
 
 /// The status of a run is known, and tells whether an output failed. Where it is a device's, one has
 /// failed, or a file that was asked for can fail; or, where a smaller file was asked for, a writer of
 /// the store has failed.
 pub fn outputs_are_told<'p, S: Store<'p>>()
-    ensures status { StatusIsKnown S.Writer.held S.Writer.has_failed }
-    ensures unwritten { NothingWritten S.Writer.held S.Writer.has_failed }
-    ensures device { DeviceIsTold S.Writer.held S.Writer.has_failed }
-    ensures output { OutputIsTold S.Writer.held S.Writer.has_failed }
-    ensures error { ErrorIsTold S.Writer.held S.Writer.has_failed }
+    ensures status { StatusIsKnown (writers_of S.Writer.held S.Writer.has_failed) }
+    ensures unwritten { NothingWritten (writers_of S.Writer.held S.Writer.has_failed) }
+    ensures device { DeviceIsTold (writers_of S.Writer.held S.Writer.has_failed) }
+    ensures output { OutputIsTold (writers_of S.Writer.held S.Writer.has_failed) }
+    ensures error { ErrorIsTold (writers_of S.Writer.held S.Writer.has_failed) }
 {}
 
 /// The status of a run tells whether each read of a file fails that has to be read.
 pub fn files_are_told<'p, S: Store<'p>>()
-    ensures plain { PlainFileIsTold S.Writer.held S.Writer.has_failed }
-    ensures schema { CheckSchemaIsTold S.Writer.held S.Writer.has_failed }
-    ensures file { CheckFileIsTold S.Writer.held S.Writer.has_failed }
+    ensures plain { PlainFileIsTold (writers_of S.Writer.held S.Writer.has_failed) }
+    ensures schema { CheckSchemaIsTold (writers_of S.Writer.held S.Writer.has_failed) }
+    ensures file { CheckFileIsTold (writers_of S.Writer.held S.Writer.has_failed) }
 {}

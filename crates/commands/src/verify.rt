@@ -4,7 +4,7 @@ ghost use Rattle.std.specs.Prelude.{◌≡◌, ◌⊎◌, false, true};
 ghost use Rattle.pin_choices.specs.Chosen.{choice_of};
 ghost use Rattle.files.specs.Stores.{reader_seen};
 ghost use Rattle.reports.specs.MergeLines.{proof_text};
-ghost use Rattle.commands.specs.Endings.{EndsAs, on_output, output_seen};
+ghost use Rattle.commands.specs.Endings.{EndsAs, exit_of, on_output, output_seen};
 ghost use Rattle.commands.specs.Verifies.{RunsVerify};
 
 use crate::ending::{DONE, report};
@@ -21,8 +21,8 @@ use verifying::sources::{read, verify_files};
 // Prints what is proved, on `out`; or tells that the output failed.
 fn tell_proof<O: Sink, E: Sink>(proof: &Proof, out: &mut O, err: &mut E) -> u8
     ensures { EndsAs (on_output (proof_text proof.now.instances proof.now.kept proof.now.rounds) 0)
-        (output_seen O.held O.has_failed out.old) (output_seen O.held O.has_failed out.new)
-        (output_seen E.held E.has_failed err.old) (output_seen E.held E.has_failed err.new) result }
+        (exit_of (output_seen O.held O.has_failed out.old out.new)
+        (output_seen E.held E.has_failed err.old err.new) result) }
 {
     match print_proof(out, proof.instances, proof.kept, proof.rounds) {
         Ok(()) => DONE,
@@ -45,30 +45,30 @@ pub fn run_verify<S: Source, F: Source, W: Source, C: Source, O: Sink, E: Sink>(
     schema: &mut S,
     choice: &Choice,
     file: &mut F,
-    smaller: &mut W,
+    output: &mut W,
     certificate: &mut C,
     out: &mut O,
     err: &mut E,
 ) -> u8
     ensures runs { RunsVerify (choice_of choice.now)
         (reader_seen S.to_come S.fails schema.old) (reader_seen F.to_come F.fails file.old)
-        (reader_seen W.to_come W.fails smaller.old) (reader_seen C.to_come C.fails certificate.old)
-        (output_seen O.held O.has_failed out.old) (output_seen O.held O.has_failed out.new)
-        (output_seen E.held E.has_failed err.old) (output_seen E.held E.has_failed err.new) result }
+        (reader_seen W.to_come W.fails output.old) (reader_seen C.to_come C.fails certificate.old)
+        (exit_of (output_seen O.held O.has_failed out.old out.new)
+        (output_seen E.held E.has_failed err.old err.new) result) }
     // A device's status comes only where one fails in the run, if none had before.
     ensures device { result ≡ 4
         → S.has_failed schema.old ≡ false → F.has_failed file.old ≡ false
-        → W.has_failed smaller.old ≡ false → C.has_failed certificate.old ≡ false
+        → W.has_failed output.old ≡ false → C.has_failed certificate.old ≡ false
         → O.has_failed out.old ≡ false → E.has_failed err.old ≡ false
         → (S.has_failed schema.new ≡ true) ⊎ (F.has_failed file.new ≡ true)
-        ⊎ (W.has_failed smaller.new ≡ true) ⊎ (C.has_failed certificate.new ≡ true)
+        ⊎ (W.has_failed output.new ≡ true) ⊎ (C.has_failed certificate.new ≡ true)
         ⊎ (O.has_failed out.new ≡ true) ⊎ (E.has_failed err.new ≡ true) }
     // Where a source fails in the run, the status says so.
     ensures schema_failed { S.has_failed schema.old ≡ false → S.has_failed schema.new ≡ true
         → result ≡ 4 }
     ensures file_failed { F.has_failed file.old ≡ false → F.has_failed file.new ≡ true
         → result ≡ 4 }
-    ensures smaller_failed { W.has_failed smaller.old ≡ false → W.has_failed smaller.new ≡ true
+    ensures output_failed { W.has_failed output.old ≡ false → W.has_failed output.new ≡ true
         → result ≡ 4 }
     ensures certificate_failed { C.has_failed certificate.old ≡ false
         → C.has_failed certificate.new ≡ true → result ≡ 4 }
@@ -77,7 +77,7 @@ pub fn run_verify<S: Source, F: Source, W: Source, C: Source, O: Sink, E: Sink>(
         Ok(text) => text,
         Err(fault) => return tell_fault(&fault, out, err),
     };
-    match verify_files(alloc, keys, &text, choice, file, smaller, certificate) {
+    match verify_files(alloc, keys, &text, choice, file, output, certificate) {
         Ok(proof) => tell_proof(&proof, out, err),
         Err(fault) => tell_fault(&fault, out, err),
     }

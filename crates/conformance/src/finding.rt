@@ -17,7 +17,7 @@ pub enum FindingKind {
     WrongKind,
     /// `$` where the attribute isn't OPTIONAL.
     MissingValue,
-    /// `*` where the attribute isn't derived, or another value where it is.
+    /// `*` where the attribute isn't derived, or a value other than `*` and `$` where it is.
     MisplacedStar,
     /// A reference to an instance that isn't there.
     DanglingReference,

@@ -1,5 +1,5 @@
 -- What a merge comes to: by findings, or by the tables of a population.
-use Rattle.std.specs.Prelude.{ℕ, List}
+use Rattle.std.specs.Prelude.{ℕ, List, Option}
 use Rattle.express_syntax.specs.Schemas.{Schema}
 use Rattle.step_structures.specs.Trees.{File}
 use Rattle.step_exchange.specs.declared.structure.Exchange.{Exchange}
@@ -18,6 +18,7 @@ use Rattle.check_findings.specs.declared.findings.Found.{Found}
 use Rattle.ruled_populations.specs.Checking.{ChecksFile, IsConforming}
 use Rattle.ruled_populations.specs.declared.checked.Checked.TheVariants as checked
 use Rattle.merge_tables.specs.ComputedTables.{AreTablesUnder, Comes}
+use Rattle.merge_tables.specs.Merges.{last_of}
 use Rattle.merge_tables.specs.declared.merging.Merging.TheVariants.{Faulty, Clean}
 use Rattle.merge_tables.proofs.Tabled.{tables-of, members-of}
 
@@ -26,19 +27,19 @@ pub comes-faulty : (s : Schema) (f : File) (c : Chosen) (names : List ℕ) (x : 
 comes-faulty s f c names x found = (λ those are. found, tt)
 
 pub comes-clean : (s : Schema) (x : Exchange) (c : Chosen) (unknown : ℕ) (weak : WeakPins) (rows : List Row)
-    (first second : held.Table) → IsConforming s (structure x) c unknown weak rows
+    (first : held.Table) (second : Option held.Table) → IsConforming s (structure x) c unknown weak rows
     → ((is : List Instance) → AreRowsOf s is rows → AreUniqueOf s is weak.lists
-    → AreTablesUnder s is (is_pinned weak.pins) (table_of first) (table_of second))
+    → AreTablesUnder s is (is_pinned weak.pins) (table_of first) (table_of (last_of first second)))
     → Comes s c (structure x) x.names (Clean unknown first second)
 comes-clean s x c unknown weak rows first second clean tables = (
   λ those are. (
     clean.nothing,
-    λ said. tables-of s said (is_pinned weak.pins) (table_of first) (table_of second) (structure x) (under said) those
+    λ said. tables-of s said (is_pinned weak.pins) (table_of first) (table_of (last_of first second)) (structure x) (under said) those
         (clean.are_weak said those are),
   ),
-  members-of s clean.nothing.0 (is_pinned weak.pins) (table_of first) (table_of second) x (under clean.nothing.0),
+  members-of s clean.nothing.0 (is_pinned weak.pins) (table_of first) (table_of (last_of first second)) x (under clean.nothing.0),
 )
   where
     under : (said : Said s) → AreTablesUnder s (instances s said (structure x)) (is_pinned weak.pins) (table_of first)
-        (table_of second)
+        (table_of (last_of first second))
     under said = tables (instances s said (structure x)) (clean.are_rows said) (clean.are_unique said)

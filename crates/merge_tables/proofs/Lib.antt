@@ -1,2 +1,3 @@
 pub mod Tabled
 pub mod Coming
+pub mod Last

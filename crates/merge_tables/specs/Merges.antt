@@ -1,9 +1,10 @@
 -- What a merge of a file by a schema comes to: findings, or the tables of its population.
-use Rattle.std.specs.Prelude.{◌≡◌, ⊤, ℕ, Bool, List, [], map}
+use Rattle.std.specs.Prelude.{◌≡◌, ⊤, ℕ, Bool, List, [], map, Option, None, Some}
 use Rattle.step_structures.specs.Trees.{File}
 use Rattle.step_equal.specs.Rows.{Row, IsPopulation}
 use Rattle.step_equal.specs.Tables.{Table, shares}
 use Rattle.step_equal.specs.TableViews.{table_of}
+use Rattle.step_equal.specs.declared.table.Table as held
 use Rattle.step_equal.specs.Standard.{IsStandard}
 use Rattle.express_syntax.specs.Schemas.{Schema}
 use Rattle.schema_semantics.specs.Names.{Name}
@@ -27,6 +28,11 @@ pub record AreTablesOf (s : Schema) (said : Said s) (chosen : List Name) (f : Fi
   pub first_is : IsStandard rows pins.weak first
   pub second_is : IsStandard rows pinned second
 
+-- the last of both tables: the second, or, where there is none, the first
+abbrev pub last_of : held.Table → Option held.Table → held.Table
+last_of first None = first
+last_of first (Some second) = second
+
 -- Something is found of the file, and this is all; or nothing is, and these are its tables, whichever functions are those
 -- of the schema. So many pairs of an instance and a domain rule are UNKNOWN.
 abbrev pub Merges : Schema → List Name → File → Merging → Type 0
@@ -35,10 +41,11 @@ Merges s chosen f (Faulty x) =
     × ((x.findings.items ≡ []) × (x.rules.findings.items ≡ []) → ⊥)
 Merges s chosen f (Clean unknown first second) =
     AreFindings s f [] [] unknown
-    × ((said : Said s) → AreTablesOf s said chosen f (table_of first) (table_of second))
+    × ((said : Said s) → AreTablesOf s said chosen f (table_of first) (table_of (last_of first second)))
 
 -- both tables have these members, in order
 abbrev pub HaveMembers : List ℕ → Merging → Type 0
 HaveMembers names (Faulty x) = ⊤
 HaveMembers names (Clean unknown first second) =
-    (map (λ m. m.0) (table_of first).members ≡ names) × (map (λ m. m.0) (table_of second).members ≡ names)
+    (map (λ m. m.0) (table_of first).members ≡ names)
+    × (map (λ m. m.0) (table_of (last_of first second)).members ≡ names)

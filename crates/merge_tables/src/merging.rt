@@ -1,13 +1,13 @@
 //! The tables by which a file is merged by its schema.
 
-ghost use Rattle.std.specs.Prelude.{List, IfOk};
+ghost use Rattle.std.specs.Prelude.{◌≡◌, List, IfOk};
 ghost use Rattle.schema_names.specs.Schemas.{the_schema};
 ghost use Rattle.express_types.specs.Sound.{IsSound};
 ghost use Rattle.schema_semantics.specs.Names.{Name};
 ghost use Rattle.step_exchange.specs.Exchanges.{structure};
 ghost use Rattle.pin_choices.specs.Chosen.{AreChosen};
 ghost use Rattle.population_layouts.specs.Tables.{AreTables};
-ghost use Rattle.merge_tables.specs.Merges.{HaveMembers, Merges};
+ghost use Rattle.merge_tables.specs.Merges.{HaveMembers, Merges, last_of};
 ghost use Rattle.merge_tables.specs.ComputedTables.{Comes};
 
 use crate::tables::standard_tables;
@@ -33,10 +33,20 @@ pub enum Merging<'s> {
         unknown: u64,
         /// The table of partition refinement under the weak pins.
         first: Table,
-        /// The table under the gentle pins, which are those that the first table's classes give: the
-        /// instances of one class at its last round are merged.
-        second: Table,
+        /// The table under the gentle pins, which are those that the first table's classes give; none
+        /// where these pin the same instances, since it is the first one then.
+        second: Option<Table>,
     },
+}
+
+/// The last of both tables, by which instances are merged: those of one class at its last round.
+pub fn last_of<'t>(first: &'t Table, second: &'t Option<Table>) -> &'t Table
+    ensures { result.now ≡ last_of first.entry.now second.entry.now }
+{
+    match second {
+        Some(second) => second,
+        None => first,
+    }
 }
 
 /// What a merge of a file comes to, by a schema with these tables.

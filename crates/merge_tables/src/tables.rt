@@ -1,6 +1,6 @@
 //! The tables of a population: under its weak pins, and under the gentle ones that these give.
 
-ghost use Rattle.std.specs.Prelude.{◌≡◌, IfOk, IsTrue, List};
+ghost use Rattle.std.specs.Prelude.{IfOk, IsTrue, List, MatchOption};
 ghost use Rattle.express_syntax.specs.Schemas.{Schema};
 ghost use Rattle.step_equal.specs.Rows.{IsPopulation};
 ghost use Rattle.step_equal.specs.Standard.{IsStandard};
@@ -11,6 +11,7 @@ ghost use Rattle.row_shapes.specs.Signatures.{AreSignatures};
 ghost use Rattle.step_pins.specs.Lists.{AreUniqueOf};
 ghost use Rattle.step_pins.specs.Pinned.{is_pinned};
 ghost use Rattle.merge_tables.specs.ComputedTables.{AreTablesUnder};
+ghost use Rattle.merge_tables.specs.Merges.{last_of};
 
 use row_shapes::signatures::{Signatures, signatures_of};
 use std::alloc::{AllocError, Global};
@@ -36,19 +37,6 @@ fn standard_table(
     Ok(classes.into_table())
 }
 
-/// A copy of a table.
-fn copied(alloc: Global, table: &Table) -> Result<Table, AllocError>
-    ensures { IfOk result (λ t. table_of t ≡ table_of table.now) }
-{
-    let classes = Vec::from_slice(alloc, &table.classes)?;
-    let members = Vec::from_slice(alloc, &table.members)?;
-    Ok(Table {
-        rounds: table.rounds,
-        classes,
-        members,
-    })
-}
-
 /// The table of partition refinement of rows under these pins. Their shapes and references aren't
 /// needed then.
 fn last_table(
@@ -65,27 +53,24 @@ fn last_table(
     Ok(classes.into_table())
 }
 
-/// The table under the gentle pins. Where these are the weak ones it is the one under the weak ones,
-/// and rows are let go of before it is copied.
+/// The table under the gentle pins; none where these are the weak ones. Rows, shapes and references are
+/// let go of.
 fn second_table(
     alloc: Global,
     keys: RandomState,
     rows: Plain<'_>,
     gentle: &GentlePins,
     signatures: Signatures,
-    first: &Table,
-) -> Result<Table, AllocError>
+) -> Result<Option<Table>, AllocError>
     requires signatures { AreSignatures rows signatures }
-    requires first { IsTrue gentle.now.are_weak
-        → IsStandard rows (is_pinned gentle.now.pins) (table_of first.now) }
-    ensures { IfOk result (λ t. IsStandard rows.entry (is_pinned gentle.now.pins) (table_of t)) }
+    ensures { IfOk result (λ t. MatchOption t (IsTrue gentle.now.are_weak)
+        (λ t. IsStandard rows.entry (is_pinned gentle.now.pins) (table_of t))) }
 {
     if gentle.are_weak {
-        drop(rows);
-        drop(signatures);
-        return copied(alloc, first);
+        return Ok(None);
     }
-    last_table(alloc, keys, &rows, &gentle.pins, signatures)
+    let table = last_table(alloc, keys, &rows, &gentle.pins, signatures)?;
+    Ok(Some(table))
 }
 
 /// The tables of rows under these weak pins and under the gentle ones that they give.
@@ -95,16 +80,16 @@ fn tables_by(
     rows: Plain<'_>,
     weak: WeakPins,
     signatures: Signatures,
-) -> Result<(Table, Table), AllocError>
+) -> Result<(Table, Option<Table>), AllocError>
     requires population { IsPopulation rows }
     requires signatures { AreSignatures rows signatures }
     ensures { (s : Schema) (is : List Instance) → AreRowsOf s is rows.entry
         → AreUniqueOf s is weak.lists → IfOk result (λ t. AreTablesUnder s is
-        (is_pinned weak.pins) (table_of t.0) (table_of t.1)) }
+        (is_pinned weak.pins) (table_of t.0) (table_of (last_of t.0 t.1))) }
 {
     let first = standard_table(alloc, keys, &rows, &weak.pins, &signatures)?;
     let gentle = weak.into_gentle(alloc, keys, &first)?;
-    let second = second_table(alloc, keys, rows, &gentle, signatures, &first)?;
+    let second = second_table(alloc, keys, rows, &gentle, signatures)?;
     Ok((first, second))
 }
 
@@ -115,11 +100,11 @@ pub(crate) fn standard_tables(
     keys: RandomState,
     rows: Plain<'_>,
     weak: WeakPins,
-) -> Result<(Table, Table), AllocError>
+) -> Result<(Table, Option<Table>), AllocError>
     requires population { IsPopulation rows }
     ensures { (s : Schema) (is : List Instance) → AreRowsOf s is rows.entry
         → AreUniqueOf s is weak.lists → IfOk result (λ t. AreTablesUnder s is
-        (is_pinned weak.pins) (table_of t.0) (table_of t.1)) }
+        (is_pinned weak.pins) (table_of t.0) (table_of (last_of t.0 t.1))) }
 {
     let signatures = signatures_of(alloc, keys, &rows)?;
     tables_by(alloc, keys, rows, weak, signatures)

@@ -21,9 +21,11 @@ abbrev pub inside : Schema → List Numbered → List Variable → List Variable
 inside s [] vs = vs
 inside s (w ∷ ws) vs = inside s ws (variable_of s w ∷ vs)
 
+-- the set of SELF around
 abbrev pub own_in : Scope → Set
 own_in t = Holds (schema_in t.known) t.own.now
 
+-- the variables around, the innermost first
 abbrev pub variables_in : Scope → List Variable
 variables_in t = inside (schema_in t.known) t.variables.now []
 

@@ -45,6 +45,7 @@ with_aggregate w t = record t { has_loose_aggregate = t.has_loose_aggregate || n
 abbrev pub with_call : Bool → Function → Survey → Survey
 with_call w f t = record t { has_bad_typeof = t.has_bad_typeof || (not w && is_typeof f) }
 
+-- the set of SELF around an expression
 abbrev pub own_of_context : Context → Set
 own_of_context c = Holds (schema_in c.known) c.own.now
 

@@ -10,7 +10,7 @@ use Rattle.express_syntax.specs.Schemas.{Schema}
 use Rattle.schema_semantics.specs.Names.{Name}
 use Rattle.check_findings.specs.Findings.{AreFindings}
 use Rattle.check_findings.specs.declared.findings.Found.{Found}
-use Rattle.merge_tables.specs.Merges.{Merges}
+use Rattle.merge_tables.specs.Merges.{Merges, last_of}
 use Rattle.merge_tables.specs.declared.merging.Merging.{Merging}
 use Rattle.merge_tables.specs.declared.merging.Merging.TheVariants.{Faulty, Clean}
 use Rattle.reports.specs.declared.report.Report.{Report}
@@ -43,9 +43,10 @@ faulty s chosen bytes x out cert m found r is merges within reads report same sa
 
 -- nothing is
 pub is_tabled : (s : Schema) (chosen : List Name) (bytes : List ℕ) (x : Exchange) (m : Merging) (unknown : ℕ)
-    (first second : Table) → m ≡ Clean unknown first second → Merges s chosen (structure x) m
-    → ReadsAs bytes x.header_bytes.now (structure x)
-    → IsTabled s chosen bytes x unknown (table_of first) (table_of second)
-is_tabled s chosen bytes x m unknown first second is merges reads =
+    (first : Table) (second : Option Table) (last : Table) → m ≡ Clean unknown first second
+    → last ≡ last_of first second → Merges s chosen (structure x) m → ReadsAs bytes x.header_bytes.now (structure x)
+    → IsTabled s chosen bytes x unknown (table_of first) (table_of last)
+is_tabled s chosen bytes x m unknown first second last is last_is merges reads =
     let all = subst (Merges s chosen (structure x)) is merges in
-    record { reads = reads; found = all.0; tables = all.1 }
+    subst (λ (t : Table). IsTabled s chosen bytes x unknown (table_of first) (table_of t)) (sym last_is)
+    (record { reads = reads; found = all.0; tables = all.1 })

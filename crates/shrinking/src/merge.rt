@@ -23,7 +23,7 @@ use devices::device::Sink;
 use express_rules::report::RuleReport;
 use express_types::graph::TypeGraph;
 use faults::fault::{Fault, of_file};
-use merge_tables::merging::{Merging, merge_tables};
+use merge_tables::merging::{Merging, last_of, merge_tables};
 use merged_populations::laws::merges_are_least;
 use pin_choices::choice::Chosen;
 use reports::report::Report;
@@ -134,8 +134,9 @@ pub(crate) fn shrink_exchange<'s: 'a, 'a, O: Sink, C: Sink>(
             first,
             second,
         } => {
-            let summary = summary(alloc, graph, exchange, unknown, &second);
-            match write_both(alloc, keys, exchange, &first, &second, out, certificate) {
+            let last = last_of(&first, &second);
+            let summary = summary(alloc, graph, exchange, unknown, last);
+            match write_both(alloc, keys, exchange, &first, last, out, certificate) {
                 Ok(()) => Ok(summary),
                 Err(fault) => Err(of_file(fault)),
             }

@@ -1,8 +1,8 @@
 -- What is built, as cells are pushed and lists closed.
-use Rattle.std.proofs.Common.{◌≡◌, ◌≤◌, ◌+◌, ℕ, suc, List, [], ◌∷◌, ◌++◌, length, take, drop, map, refl, sym, ◌∙◌, ap, subst, arith, length-append, length-drop, append-nil}
-use Rattle.std.specs.List.{All, sum_by}
+use Rattle.std.proofs.Common.{◌≡◌, ◌<◌, ◌≤◌, ◌+◌, ℕ, suc, List, [], ◌∷◌, ◌++◌, length, take, drop, map, refl, sym, ◌∙◌, ap, subst, arith, length-append, length-drop, append-nil, ◌⊎◌, inl, inr}
+use Rattle.std.specs.List.{All, Contains, sum_by}
 use Rattle.std.proofs.lemmas.List.{map-append, take_at, drop_at, drop-map, take-map, take-append-drop}
-use Rattle.std.proofs.lemmas.List.Elements.{All-nil, All-push, All-take, All-drop}
+use Rattle.std.proofs.lemmas.List.Elements.{All-nil, All-push, All-take, All-drop, Contains-append_cases, Contains-append_left, Contains-append_right, Contains-push}
 use Rattle.std.proofs.lemmas.List.Sums.{sum_by_push}
 use Rattle.parsing.specs.Cells.{Cells}
 use Rattle.parsing.specs.Closing.{Closes}
@@ -12,8 +12,8 @@ use Rattle.parsing.proofs.Grown.{goes_on, place_same, said_same, all_later}
 use Rattle.step_literals.specs.declared.literal.Word.{Word}
 use Rattle.step_values.specs.declared.cell.Cell.{Cell}
 use Rattle.step_values.specs.declared.cell.Cell.TheVariants as cells
-use Rattle.step_values.specs.Building.{AreWithin, built, Builds, Building, Holds, IsOutside, StandApart, rows_by}
-use Rattle.step_values.specs.Cells.{flat_value, inner_of, reach_of, IsInside, value_at, value_by, value_nodes, values_of_run}
+use Rattle.step_values.specs.Building.{AreReached, AreWithin, built, Builds, Building, Holds, IsOutside, StandApart, rows_by}
+use Rattle.step_values.specs.Cells.{flat_value, inner_of, reach_of, IsIn, IsInside, value_at, value_by, value_nodes, values_of_run}
 use Rattle.step_values.specs.NodeCounts.{nodes_of, nodes_in}
 use Rattle.step_values.specs.Targets.{target_of, targets_of, LeadTo}
 use Rattle.step_values.specs.Leaves.{unset}
@@ -84,6 +84,48 @@ flat_nodes (cells.Reference y row) e = refl
 pub flat_one : (f : ℕ → Value) (c : Cell) → reach_of c ≡ 0 → nodes_of (value_by f c) ≡ 1
 flat_one f c e = ap nodes_of (flat_says f c e) ∙ flat_nodes c e
 
+-- what is reached stays so, where no cell and no run is lost
+reached_still : (n : ℕ) (runs more : List Run) (cs ds : List Cell) → ((r : Run) → Contains runs r → Contains more r)
+    → ((c : Cell) → Contains cs c → Contains ds c) → AreReached n runs cs → AreReached n more ds
+reached_still n runs more cs ds kept stay h k l = elim (h k l) [
+  | inl there ↦ inl (there.0, kept there.0 there.1, there.2)
+  | inr there ↦ inr (there.0, stay there.0 there.1, there.2)
+]
+
+-- .. and what stands behind it too
+reached_behind : (m n : ℕ) (runs : List Run) (cs : List Cell) → AreReached m runs cs → ((k : ℕ) → m ≤ k → k < n
+    → ((r : Run) × Contains runs r × IsIn r k) ⊎ ((c : Cell) × Contains cs c × IsInside c k)) → AreReached n runs cs
+reached_behind m n runs cs h behind k l = go (low_or_high k)
+  where
+    low_or_high : (k : ℕ) → (k < m) ⊎ (m ≤ k)
+    low_or_high k = search arith
+
+    go : (k < m) ⊎ (m ≤ k) → ((r : Run) × Contains runs r × IsIn r k) ⊎ ((c : Cell) × Contains cs c × IsInside c k)
+    go (inl low) = h k low
+    go (inr high) = behind k high l
+
+-- pending cells of which the last ones go behind a column
+moved_still : (mark : ℕ) (column pending : List Cell) (c : Cell) → Contains (column ++ pending) c
+    → Contains ((column ++ drop mark pending) ++ take mark pending) c
+moved_still mark column pending c h = elim (Contains-append_cases column pending c h) [
+  | inl there ↦ Contains-append_left (column ++ drop mark pending) (take mark pending) c
+      (Contains-append_left column (drop mark pending) c there)
+  | inr there ↦ elim (Contains-append_cases (take mark pending) (drop mark pending) c
+      (subst (λ l. Contains l c) (sym (take-append-drop mark pending)) there)) [
+        | inl front ↦ Contains-append_right (column ++ drop mark pending) (take mark pending) c front
+        | inr back ↦ Contains-append_left (column ++ drop mark pending) (take mark pending) c
+            (Contains-append_right column (drop mark pending) c back)
+      ]
+]
+
+-- one more is pending
+pending_still : (column pending : List Cell) (d c : Cell) → Contains (column ++ pending) c
+    → Contains (column ++ (pending ++ d ∷ [])) c
+pending_still column pending d c h = elim (Contains-append_cases column pending c h) [
+  | inl there ↦ Contains-append_left column (pending ++ d ∷ []) c there
+  | inr there ↦ Contains-append_right column (pending ++ d ∷ []) c (Contains-append_left pending (d ∷ []) c there)
+]
+
 module _ (names : List ℕ) where
   -- nothing is built yet
   pub nothing_built : Builds names [] [] []
@@ -93,6 +135,7 @@ module _ (names : List ℕ) where
     apart = none_apart;
     before = tt;
     outside = All-nil (IsOutside []);
+    reached = λ k l. absurd (omega (arith, l));
     count = refl;
     column_leads = tt;
     pending_leads = tt;
@@ -106,6 +149,7 @@ module _ (names : List ℕ) where
     pub apart : StandApart new.column runs
     pub before : AreBefore value_nodes (length new.column) new.pending
     pub outside : All (IsOutside runs) new.pending
+    pub reached : AreReached r.first runs (new.column ++ new.pending)
     pub column_leads : LeadTo names (targets_of new.column)
     pub pending_leads : LeadTo names (targets_of new.pending)
     pub count : length new.column + length new.pending ≡ sum_by nodes_in (rows_by old.column runs)
@@ -145,6 +189,9 @@ module _ (names : List ℕ) where
         before = all_later value_nodes asks_inside (length old.column) (length (old.column ++ cs))
             (take mark old.pending) up parts.0;
         outside = All-take (IsOutside runs) mark old.pending h.outside;
+        reached = reached_still (length old.column) runs runs (old.column ++ old.pending)
+            ((old.column ++ cs) ++ take mark old.pending) (λ q there. there) (moved_still mark old.column old.pending)
+            h.reached;
         column_leads = leads_join names old.column cs h.column_leads leads.1;
         pending_leads = leads.0;
         count = omega (arith, longer, both, nodes, all);
@@ -178,6 +225,8 @@ module _ (names : List ℕ) where
           outside = All-push (IsOutside runs) pending c h.outside
               (outside_behind (length column) runs h.within c
               (λ k i. let low = inside_reach c k i in absurd (omega (arith, low, b))));
+          reached = reached_still (length column) runs runs (column ++ pending) (column ++ (pending ++ c ∷ []))
+              (λ q there. there) (pending_still column pending c) h.reached;
           count = omega (arith, nodes, more, longer, all, one);
           column_leads = h.column_leads;
           pending_leads = leads_join names pending (c ∷ []) h.pending_leads (alone c t);
@@ -200,8 +249,10 @@ module _ (names : List ℕ) where
         ≡ take mark (said_by value_nodes old.column old.pending) ++ x ∷ []
     parents = said_push new.column new.pending c ∙ (λ i. h.pending_same i ++ says i ∷ [])
 
-    pub parent_pushed : ((k : ℕ) → IsInside c k → r.first ≤ k) → Builds names new.column runs (new.pending ++ c ∷ [])
-    parent_pushed start =
+    pub parent_pushed : ((k : ℕ) → IsInside c k → r.first ≤ k)
+        → ((k : ℕ) → r.first ≤ k → k < length new.column → IsInside c k)
+        → Builds names new.column runs (new.pending ++ c ∷ [])
+    parent_pushed start full =
         let kept = take mark (said_by value_nodes old.column old.pending) in
         let all : sum_by nodes_of (said_by value_nodes new.column (new.pending ++ c ∷ []))
         ≡ sum_by nodes_of kept + nodes_of x = ap (sum_by nodes_of) parents ∙ sum_by_push nodes_of kept x in
@@ -215,6 +266,15 @@ module _ (names : List ℕ) where
           apart = h.apart;
           before = before_join (length new.column) new.pending (c ∷ []) h.before (low, tt);
           outside = All-push (IsOutside runs) new.pending c h.outside (outside_behind r.first runs h.behind c start);
+          reached = reached_behind r.first (length new.column) runs (new.column ++ (new.pending ++ c ∷ []))
+              (reached_still r.first runs runs (new.column ++ new.pending) (new.column ++ (new.pending ++ c ∷ []))
+              (λ q there. there) (pending_still new.column new.pending c) h.reached)
+              (λ k from to. inr (
+                c,
+                Contains-append_right new.column (new.pending ++ c ∷ []) c
+                    (Contains-push new.pending c),
+                full k from to,
+              ));
           count = omega (arith, all, rows, longer, count, nodes);
           column_leads = h.column_leads;
           pending_leads = leads_join names new.pending (c ∷ []) h.pending_leads
@@ -246,6 +306,7 @@ module _ (names : List ℕ) where
     typed_pushed = parent_pushed old runs mark r new h (cells.Typed high low w)
         (typed (word_of w) (value_at new.column r.first)) low_typed refl says_inner
         (nodes_one _ _ last_said) (λ k i. omega (arith, i, inner))
+        (λ k from to. let end = h.end in omega (arith, from, to, end, one, inner))
 
     pub typed_built : (front : List Value) (v : Value)
         → said_by value_nodes old.column old.pending ≡ front ++ v ∷ [] → mark ≡ length front
@@ -305,6 +366,10 @@ module _ (names : List ℕ) where
               builds.before r first);
           before = h.before;
           outside = subst (All (IsOutside (runs ++ r ∷ []))) (sym closes.pending) (All-nil (IsOutside (runs ++ r ∷ [])));
+          reached = reached_behind r.first (length new.column) (runs ++ r ∷ []) (new.column ++ new.pending)
+              (reached_still r.first runs (runs ++ r ∷ []) (new.column ++ new.pending) (new.column ++ new.pending)
+              (λ q there. Contains-append_left runs (r ∷ []) q there) (λ c there. there) h.reached)
+              (λ k from to. inl (r, Contains-push runs r, (from, omega (arith, to, end))));
           count = omega (arith, sums, inside, empty, all);
           column_leads = h.column_leads;
           pending_leads = h.pending_leads;
@@ -327,4 +392,10 @@ module _ (names : List ℕ) where
         let none : pending ≡ [] = nothing_mapped _ pending seen in
         let all : Builds names column runs [] = subst (Builds names column runs) none h in
         let count = all.count in
-        record { column_is = all.column_is; within = all.within; apart = all.apart; count = omega (arith, count) }
+        record {
+          column_is = all.column_is;
+          within = all.within;
+          apart = all.apart;
+          reached = subst (AreReached (length column) runs) (append-nil column) all.reached;
+          count = omega (arith, count);
+        }

@@ -5,7 +5,7 @@ use Rattle.std.proofs.lemmas.Bool.Decides.{leb_tells}
 use Rattle.std.proofs.lemmas.List.{get_or_default, length-map, length-take-le, map-append}
 use Rattle.std.proofs.lemmas.List.Elements.{All-tail}
 use Rattle.std.proofs.lemmas.List.FromFn.{get_or-range_with_len, length-range_with_len}
-use Rattle.std.proofs.lemmas.List.Sorted.{All-permutation, IsPermutation-map, IsPermutation-put_mid, length_permutation, sum_by-IsPermutation}
+use Rattle.std.proofs.lemmas.List.Sorted.{All-permutation, Contains-permutation, IsPermutation-map, IsPermutation-put_mid, length_permutation, sum_by-IsPermutation}
 use Rattle.std.proofs.lemmas.List.Sums.{sum_by-cons, sum_by-set}
 use Rattle.std.proofs.lemmas.Option.{get_or_from_slice_get, slice_get-get_or, same_Some, slice_get-map, slice_get_within}
 use Rattle.std.proofs.lemmas.Simd.{pick_l_whole}
@@ -14,7 +14,7 @@ use Rattle.parsing.specs.Nodes.{run, said_or, said_within, IsColumn}
 use Rattle.parsing.specs.declared.column.Run.{Run}
 use Rattle.step_values.specs.declared.cell.Cell.{Cell}
 use Rattle.step_values.specs.declared.cell.Cell.TheVariants as cells
-use Rattle.step_values.specs.Building.{AreWithin, EndsBefore, Holds, IsOutside, rows_by}
+use Rattle.step_values.specs.Building.{AreReached, AreWithin, EndsBefore, Holds, IsOutside, rows_by}
 use Rattle.step_values.specs.Cells.{reach_of, IsIn, IsInside, value_at, value_by, value_nodes, values_of_run}
 use Rattle.step_values.specs.ComputedAgreement.{size}
 use Rattle.step_values.specs.Leaves.{unset}
@@ -403,6 +403,12 @@ module _ (old : List Cell) (runs : List Run) (h : Holds old runs) (i : ℕ) (r :
       let moved = ap (sum_by nodes_in) rows_moved in
       omega (arith, nodes, had, all, moved)
 
+  reached_new : AreReached (length new) runs new
+  reached_new k l = elim (h.reached k (let size = same_size in omega (arith, l, size))) [
+    | inl there ↦ inl there
+    | inr there ↦ inr (there.0, Contains-permutation old new there.0 m.all there.1, there.2)
+  ]
+
   holds_moved : Holds new runs
   holds_moved =
       let count = h.count in
@@ -416,6 +422,7 @@ module _ (old : List Cell) (runs : List Run) (h : Holds old runs) (i : ℕ) (r :
           before = before_new;
           outside = All-permutation (IsOutside runs) old new m.all h.apart.outside;
         };
+        reached = reached_new;
         count = omega (arith, count, size, nodes);
       }
 

@@ -1,7 +1,7 @@
 -- Rows of values in one column, and those that are still to be put together.
-use Rattle.std.specs.Prelude.{◌≡◌, ⊤, ℕ, ◌+◌, ◌≤◌, List, [], ◌∷◌, Some, length, map, slice_get, refl}
+use Rattle.std.specs.Prelude.{◌≡◌, ⊤, ℕ, ◌+◌, ◌<◌, ◌≤◌, ◌++◌, ◌⊎◌, List, [], ◌∷◌, Some, length, map, slice_get, refl}
 use Rattle.std.specs.Coded.{Coded, code_by, coded×, coded_ℕ, coded_list}
-use Rattle.std.specs.List.{All, AllPairs, sum_by}
+use Rattle.std.specs.List.{All, AllPairs, Contains, sum_by}
 use Rattle.parsing.specs.Nodes.{said_by, IsColumn, AreBefore}
 use Rattle.parsing.specs.declared.column.Run.{Run}
 use Rattle.step_values.specs.declared.cell.Cell.{Cell}
@@ -58,11 +58,18 @@ pub record StandApart (column : List Cell) (runs : List Run) : Type 0 where
       → slice_get column k ≡ Some c → reach_of c ≤ r.first
   pub outside : All (IsOutside runs) column
 
--- a column holds rows, one cell for each node
+-- each of the first n places is in one of these runs, or right inside one of these cells
+abbrev pub AreReached : ℕ → List Run → List Cell → Type 0
+AreReached n runs cs = (k : ℕ) → k < n
+    → ((r : Run) × Contains runs r × IsIn r k) ⊎ ((c : Cell) × Contains cs c × IsInside c k)
+
+-- A column holds rows: each place is of a value of a row or right inside another one, and there are as many as the rows
+-- have nodes; so there is one cell for each node, and no other.
 pub record Holds (column : List Cell) (runs : List Run) : Type 0 where
   pub column_is : IsColumn value_nodes column
   pub within : AreWithin (length column) runs
   pub apart : StandApart column runs
+  pub reached : AreReached (length column) runs column
   pub count : length column ≡ sum_by nodes_in (rows_by column runs)
 
 -- The rows are runs of a column: one behind another, none right inside another's values, and nothing else is in it.
@@ -84,6 +91,7 @@ pub record Builds (names : List ℕ) (column : List Cell) (runs : List Run) (pen
   pub apart : StandApart column runs
   pub before : AreBefore value_nodes (length column) pending
   pub outside : All (IsOutside runs) pending
+  pub reached : AreReached (length column) runs (column ++ pending)
   pub count : length column + length pending
       ≡ sum_by nodes_in (rows_by column runs) + sum_by nodes_of (said_by value_nodes column pending)
   pub column_leads : LeadTo names (targets_of column)

@@ -53,20 +53,20 @@ fn read_all<'s, F: Source, W: Source, C: Source>(
     alloc: Global,
     schema: &[u8],
     file: &mut F,
-    smaller: &mut W,
+    output: &mut W,
     certificate: &mut C,
 ) -> Result<Texts, Fault<'s>>
     ensures read { MatchResult result
         (λ texts. AreRead (given schema.now) (reader_seen F.to_come F.fails file.old)
-        (reader_seen W.to_come W.fails smaller.old) (reader_seen C.to_come C.fails certificate.old)
+        (reader_seen W.to_come W.fails output.old) (reader_seen C.to_come C.fails certificate.old)
         schema.now texts.file.items texts.smaller.items texts.certificate.items)
         (FirstUnread (given schema.now) (reader_seen F.to_come F.fails file.old)
-        (reader_seen W.to_come W.fails smaller.old) (reader_seen C.to_come C.fails certificate.old)) }
+        (reader_seen W.to_come W.fails output.old) (reader_seen C.to_come C.fails certificate.old)) }
     ensures no_schema_fault { is_device roles.Schema result ≡ false }
     ensures file_failed { F.has_failed file.old ≡ false
         → F.has_failed file.new ≡ is_device roles.File result }
-    ensures smaller_failed { W.has_failed smaller.old ≡ false
-        → W.has_failed smaller.new ≡ is_device roles.Output result }
+    ensures output_failed { W.has_failed output.old ≡ false
+        → W.has_failed output.new ≡ is_device roles.Output result }
     ensures certificate_failed { C.has_failed certificate.old ≡ false
         → C.has_failed certificate.new ≡ is_device roles.Certificate result }
 {
@@ -74,7 +74,7 @@ fn read_all<'s, F: Source, W: Source, C: Source>(
         return Err(too_large(Role::Schema));
     }
     let file = read(alloc, Role::File, file)?;
-    let smaller = read(alloc, Role::Output, smaller)?;
+    let smaller = read(alloc, Role::Output, output)?;
     let certificate = read(alloc, Role::Certificate, certificate)?;
     Ok(Texts {
         file,
@@ -115,23 +115,23 @@ pub fn verify_files<'s, F: Source, W: Source, C: Source>(
     schema: &'s [u8],
     choice: &Choice,
     file: &mut F,
-    smaller: &mut W,
+    output: &mut W,
     certificate: &mut C,
 ) -> Result<Proof, Fault<'s>>
     // What is answered is what the four texts and the choice say.
     ensures verifies { VerifiesAll (choice_of choice.now) (given schema.now)
         (reader_seen F.to_come F.fails file.old)
-        (reader_seen W.to_come W.fails smaller.old) (reader_seen C.to_come C.fails certificate.old) result }
+        (reader_seen W.to_come W.fails output.old) (reader_seen C.to_come C.fails certificate.old) result }
     // The fault is a device's exactly where that one failed.
     ensures no_schema_fault { is_device roles.Schema result ≡ false }
     ensures file_failed { F.has_failed file.old ≡ false
         → F.has_failed file.new ≡ is_device roles.File result }
-    ensures smaller_failed { W.has_failed smaller.old ≡ false
-        → W.has_failed smaller.new ≡ is_device roles.Output result }
+    ensures output_failed { W.has_failed output.old ≡ false
+        → W.has_failed output.new ≡ is_device roles.Output result }
     ensures certificate_failed { C.has_failed certificate.old ≡ false
         → C.has_failed certificate.new ≡ is_device roles.Certificate result }
 {
-    match read_all(alloc, schema, file, smaller, certificate) {
+    match read_all(alloc, schema, file, output, certificate) {
         Ok(texts) => verify_texts(alloc, keys, schema, choice, texts),
         Err(fault) => Err(fault),
     }

@@ -5,33 +5,28 @@ use Rattle.class_parts.specs.Views.{layout}
 use Rattle.class_rounds.specs.Edges.{AreEdges}
 use Rattle.class_rounds.specs.Steps.{Gathers}
 use Rattle.class_rounds.proofs.Gathering.{gathered_places}
-use Rattle.class_rounds.proofs.Keyed.{keyed_places, first_parts}
+use Rattle.class_rounds.proofs.Parting.{first_parts}
 use Rattle.class_rounds.proofs.rounds.first_round.Goals as goal
 
 pub part_by_pairs-requires-clause-places : goal.part_by_pairs-requires-clause-places
 part_by_pairs-requires-clause-places c =
-    keyed_places c.args.shapes.now _ (size (layout c.args.parts.now)) c.in_ok-shapes.ensures c.requires.each
-
-pub part_by_pairs-requires-2-clause-places : goal.part_by_pairs-requires-2-clause-places
-part_by_pairs-requires-2-clause-places c =
     let p : Layout = layout c.args.parts.now in
-    let q : Layout = layout c.part_by_pairs.new.self in
-    let sizes : size q ≡ size p = c.in_ok-part_by_pairs.ensures.finer.places in
+    let q : Layout = layout c.part_by_numbers.new.self in
+    let sizes : size q ≡ size p = c.in_ok-part_by_numbers.ensures.finer.places in
     gathered_places c.args.edges.now p p c.min.result c.class_count-high.result (size q) c.in_ok-pairs.pairs.items
     c.in_ok-pairs.ensures (subst (λ n. AreEdges n c.args.edges.now) (sym sizes) c.requires.edges)
 
 pub returns : goal.returns
 returns c =
     let p : Layout = layout c.args.parts.now in
-    let q : Layout = layout c.part_by_pairs.new.self in
-    let r : Layout = layout c.part_by_pairs-2.new.self in
+    let q : Layout = layout c.part_by_numbers.new.self in
+    let r : Layout = layout c.part_by_pairs.new.self in
     let high_is : c.class_count-high.result ≡ count p = c.class_count-high.ensures in
     let low : ℕ = c.min.result in
     let low_is = c.min.ensures in
-    on_ok_weaker c.part_by_pairs-2.result
+    on_ok_weaker c.part_by_pairs.result
     (first_parts c.args.edges.now p low c.in_ok-pairs.pairs.items
     (λ x l. (c.requires.laid.within x l).known) c.requires.edges
     (subst (λ k. Gathers c.args.edges.now p p low k c.in_ok-pairs.pairs.items) high_is c.in_ok-pairs.ensures)
-    q r c.args.shapes.now _ (omega arith) c.requires.each c.requires.alike c.in_ok-shapes.ensures
-    c.in_ok-part_by_pairs.ensures)
-    c.part_by_pairs-2.ensures
+    q r c.args.shapes.now (omega arith) c.requires.each c.requires.alike c.in_ok-part_by_numbers.ensures)
+    c.part_by_pairs.ensures

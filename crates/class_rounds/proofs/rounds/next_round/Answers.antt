@@ -3,7 +3,7 @@ use Rattle.class_parts.specs.Laid.{Layout, size, count}
 use Rattle.class_parts.specs.Views.{layout}
 use Rattle.class_rounds.specs.Steps.{Gathers}
 use Rattle.class_rounds.proofs.Gathering.{gathered_places}
-use Rattle.class_rounds.proofs.Keyed.{rounds_part}
+use Rattle.class_rounds.proofs.Parting.{rounds_part}
 use Rattle.class_rounds.proofs.rounds.next_round.Goals as goal
 
 pub part_by_pairs-requires-clause-places : goal.part_by_pairs-requires-clause-places

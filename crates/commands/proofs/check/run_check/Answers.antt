@@ -13,33 +13,32 @@ use Rattle.commands.proofs.check.run_check.Goals as goal
 pub returns-in-Err-clause-runs : goal.returns-in-Err-clause-runs
 returns-in-Err-clause-runs g c =
     unread_check (Vec ℕ Global) (reader_seen g.S.Source.to_come g.S.Source.fails c.args.schema.now)
-    (reader_seen g.F.Source.to_come g.F.Source.fails c.args.file.now) _ _ _ _ c.tell_fault.result c.in-Err.fault
+    (reader_seen g.F.Source.to_come g.F.Source.fails c.args.file.now) _ c.in-Err.fault
     c.unread.result c.unread.ensures (λ e. c.in-Err.ensures.too_large (ap Err e)) c.in-Err.ensures.told
     c.tell_fault.ensures
 
 pub returns-in-Ok-check-clause-runs : goal.returns-in-Ok-check-clause-runs
 returns-in-Ok-check-clause-runs g c =
     read_check (reader_seen g.S.Source.to_come g.S.Source.fails c.args.schema.now)
-    (reader_seen g.F.Source.to_come g.F.Source.fails c.args.file.now) _ c.in-Ok.text.items _ _ _ _ c.tell_report.result
+    (reader_seen g.F.Source.to_come g.F.Source.fails c.args.file.now) _ c.in-Ok.text.items _
     (Ok c.in-Ok-check.found) c.in-Ok.ensures.all c.in-Ok.ensures.told
     (subst (λ text. Checks (Some text) (g.F.Source.to_come c.args.file.now) (Ok c.in-Ok-check.found))
     c.deref.ensures.value c.in-Ok-check.ensures.checks) c.in-Ok-check.ensures.no_schema_fault
     c.in-Ok-check.ensures.file_told
-    (report_ends c.in-Ok-check.found c.status_of_report.result _ _ _ _ c.tell_report.result c.status_of_report.ensures
+    (report_ends c.in-Ok-check.found c.status_of_report.result _ c.status_of_report.ensures
     c.tell_report.ensures)
 
 pub returns-clause-runs : goal.returns-clause-runs
 returns-clause-runs g c =
     read_check (reader_seen g.S.Source.to_come g.S.Source.fails c.args.schema.now)
-    (reader_seen g.F.Source.to_come g.F.Source.fails c.args.file.now) _ c.in-Ok.text.items _ _ _ _
-    c.tell_fault-in-Err-check.result (Err c.in-Err-check.fault) c.in-Ok.ensures.all c.in-Ok.ensures.told
+    (reader_seen g.F.Source.to_come g.F.Source.fails c.args.file.now) _ c.in-Ok.text.items _ (Err c.in-Err-check.fault) c.in-Ok.ensures.all c.in-Ok.ensures.told
     (subst (λ text. Checks (Some text) (g.F.Source.to_come c.args.file.now) (Err c.in-Err-check.fault))
     c.deref.ensures.value c.in-Err-check.ensures.checks) c.in-Err-check.ensures.no_schema_fault
     c.in-Err-check.ensures.file_told c.tell_fault-in-Err-check.ensures
 
 pub returns-in-Err-clause-device : goal.returns-in-Err-clause-device
 returns-in-Err-clause-device g c is schema file out err =
-    one_failed _ (g.F.Source.to_come c.args.file.now) (Err c.unread.result) _ _ _ _ c.tell_fault.result _ _
+    one_failed _ (g.F.Source.to_come c.args.file.now) (Err c.unread.result) _ _ _
     (unread-schema (g.S.Source.to_come c.args.schema.now) (g.F.Source.to_come c.args.file.now) c.in-Err.fault
     c.unread.result c.unread.ensures (λ e. c.in-Err.ensures.too_large (ap Err e)))
     (c.in-Err.ensures.failed schema
@@ -49,18 +48,16 @@ returns-in-Err-clause-device g c is schema file out err =
 
 pub returns-in-Ok-check-clause-device : goal.returns-in-Ok-check-clause-device
 returns-in-Ok-check-clause-device g c is schema file out err =
-    one_failed (Some c.in-Ok.text.items) (g.F.Source.to_come c.args.file.now) (Ok c.in-Ok-check.found) _ _ _ _
-    c.tell_report.result _ _
+    one_failed (Some c.in-Ok.text.items) (g.F.Source.to_come c.args.file.now) (Ok c.in-Ok-check.found) _ _ _
     (subst (λ text. Checks (Some text) (g.F.Source.to_come c.args.file.now) (Ok c.in-Ok-check.found))
     c.deref.ensures.value c.in-Ok-check.ensures.checks)
     (c.in-Ok.ensures.failed schema) (c.in-Ok-check.ensures.file_fault file)
-    (report_ends c.in-Ok-check.found c.status_of_report.result _ _ _ _ c.tell_report.result c.status_of_report.ensures
+    (report_ends c.in-Ok-check.found c.status_of_report.result _ c.status_of_report.ensures
     c.tell_report.ensures) is out err
 
 pub returns-clause-device : goal.returns-clause-device
 returns-clause-device g c is schema file out err =
-    one_failed (Some c.in-Ok.text.items) (g.F.Source.to_come c.args.file.now) (Err c.in-Err-check.fault) _ _ _ _
-    c.tell_fault-in-Err-check.result _ _
+    one_failed (Some c.in-Ok.text.items) (g.F.Source.to_come c.args.file.now) (Err c.in-Err-check.fault) _ _ _
     (subst (λ text. Checks (Some text) (g.F.Source.to_come c.args.file.now) (Err c.in-Err-check.fault))
     c.deref.ensures.value c.in-Err-check.ensures.checks)
     (c.in-Ok.ensures.failed schema ∙ sym c.in-Err-check.ensures.no_schema_fault)
@@ -68,11 +65,11 @@ returns-clause-device g c is schema file out err =
 
 pub returns-in-Err-clause-schema_failed : goal.returns-in-Err-clause-schema_failed
 returns-in-Err-clause-schema_failed g c fresh fails =
-    device_ends Report roles.Schema c.unread.result _ _ _ _ c.tell_fault.result c.tell_fault.ensures
+    device_ends Report roles.Schema c.unread.result _ c.tell_fault.ensures
     (sym (c.in-Err.ensures.failed fresh
     ∙ unread_device Report roles.Schema c.in-Err.fault c.unread.result c.unread.ensures (Vec ℕ Global)) ∙ fails)
 
 pub returns-clause-file_failed : goal.returns-clause-file_failed
 returns-clause-file_failed g c fresh fails =
-    device_ends Report roles.File c.in-Err-check.fault _ _ _ _ c.tell_fault-in-Err-check.result
+    device_ends Report roles.File c.in-Err-check.fault _
     c.tell_fault-in-Err-check.ensures (sym (c.in-Err-check.ensures.file_fault fresh) ∙ fails)

@@ -7,7 +7,7 @@ use Rattle.commands.proofs.Opening.{opens_two, request_opens}
 use Rattle.commands.proofs.command.run.Goals as goal
 
 pub returns-in-Plain-clause-does : goal.returns-in-Plain-clause-does
-returns-in-Plain-clause-does g c = done_as _ _ _ _ _ _ _ _ _ _ _ (sym c.in-Plain.is) (record {
+returns-in-Plain-clause-does g c = done_as _ _ _ _ _ _ (sym c.in-Plain.is) (record {
   outcome = c.plain.result;
   plain = subst (λ coming. Plain coming (g.O.Sink.held c.args.out.now) (g.O.Sink.held c.plain.new.out) c.plain.result)
       c.reader-source.ensures.contents c.plain.ensures.plain;
@@ -26,16 +26,16 @@ returns-in-Check-clause-does g c =
     let file = is_stored contents fails c.args.store.now _ _
     (reader_seen g.S.Reader.Source.to_come g.S.Reader.Source.fails c.reader-file.result) c.reader-schema.ensures.kept
     c.reader-schema.ensures.same c.reader-file.ensures.contents c.reader-file.ensures.fails in
-    done_as _ _ _ _ _ _ _ _ _ _ _ (sym c.in-Check.is)
-    (checks_as _ _ _ _ _ _ _ _ c.run_check.result schema file c.run_check.ensures.runs)
+    done_as _ _ _ _ _ _ (sym c.in-Check.is)
+    (checks_as _ _ _ _ _ schema file c.run_check.ensures.runs)
 
 pub returns-in-Shrink-clause-does : goal.returns-in-Shrink-clause-does
 returns-in-Shrink-clause-does g c =
-    done_as _ _ _ _ _ _ _ _ _ _ _ (sym c.in-Shrink.is) c.shrink_asked.ensures.makes
+    done_as _ _ _ _ _ _ (sym c.in-Shrink.is) c.shrink_asked.ensures.makes
 
 pub returns-in-Verify-clause-does : goal.returns-in-Verify-clause-does
 returns-in-Verify-clause-does g c =
-    done_as _ _ _ _ _ _ _ _ _ _ _ (sym c.in-Verify.is) c.verify_asked.ensures.verifies
+    done_as _ _ _ _ _ _ (sym c.in-Verify.is) c.verify_asked.ensures.verifies
 
 pub returns-in-Plain-clause-kept : goal.returns-in-Plain-clause-kept
 returns-in-Plain-clause-kept g c path apart = c.reader-source.ensures.kept path
@@ -53,14 +53,14 @@ returns-in-Shrink-clause-kept g c path apart =
     c.shrink_asked.ensures.kept path (λ same. other (inl same)) (λ same. other (inr same))
 
 pub returns-in-Plain-clause-opened : goal.returns-in-Plain-clause-opened
-returns-in-Plain-clause-opened g c = request_opens _ _ _ _ _ _ _ (sym c.in-Plain.is) (inl c.reader-source.ensures.opened)
+returns-in-Plain-clause-opened g c = request_opens _ _ _ _ _ _ (sym c.in-Plain.is) (inl c.reader-source.ensures.opened)
 
 pub returns-in-Check-clause-opened : goal.returns-in-Check-clause-opened
-returns-in-Check-clause-opened g c = request_opens _ _ _ _ _ _ _ (sym c.in-Check.is)
+returns-in-Check-clause-opened g c = request_opens _ _ _ _ _ _ (sym c.in-Check.is)
     (inl (opens_two g.S.Store.opened _ _ _ _ _ c.reader-schema.ensures.opened c.reader-file.ensures.opened))
 
 pub returns-in-Shrink-clause-opened : goal.returns-in-Shrink-clause-opened
-returns-in-Shrink-clause-opened g c = request_opens _ _ _ _ _ _ _ (sym c.in-Shrink.is) c.shrink_asked.ensures.opened
+returns-in-Shrink-clause-opened g c = request_opens _ _ _ _ _ _ (sym c.in-Shrink.is) c.shrink_asked.ensures.opened
 
 pub returns-in-Verify-clause-opened : goal.returns-in-Verify-clause-opened
-returns-in-Verify-clause-opened g c = request_opens _ _ _ _ _ _ _ (sym c.in-Verify.is) c.verify_asked.ensures.opened
+returns-in-Verify-clause-opened g c = request_opens _ _ _ _ _ _ (sym c.in-Verify.is) c.verify_asked.ensures.opened

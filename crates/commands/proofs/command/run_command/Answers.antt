@@ -18,13 +18,13 @@ returns-in-Ok-clause-unopened g c = λ none. absurd (none_asked (map string_byte
     c.in-Ok.ensures.asked)
 
 pub returns-in-Ok-clause-opened : goal.returns-in-Ok-clause-opened
-returns-in-Ok-clause-opened g c = asked_opens (map string_bytes c.args.words.now) c.in-Ok.request _ _ _ _ c.run.result
+returns-in-Ok-clause-opened g c = asked_opens (map string_bytes c.args.words.now) c.in-Ok.request _ _ _ _
     c.in-Ok.ensures.asked c.run.ensures.opened
 
 pub returns-in-Ok-clause-runs : goal.returns-in-Ok-clause-runs
 returns-in-Ok-clause-runs g c =
-    asked_runs _ _ (map string_bytes c.args.words.now)
-    (file_seen g.S.Store.contents g.S.Store.fails c.args.store.now) _ _ _ _ _ _
+    asked_runs _ (map string_bytes c.args.words.now)
+    (file_seen g.S.Store.contents g.S.Store.fails c.args.store.now) _ _
     c.in-Ok.request c.in-Ok.ensures.asked c.run.ensures.does
 
 pub returns-in-Ok-clause-kept : goal.returns-in-Ok-clause-kept
@@ -41,13 +41,13 @@ returns-in-Err-clause-opened g c = inr (
         check = c.in-Err.ensures.check_granted;
         shrink = c.in-Err.ensures.shrink_granted;
         verify = c.in-Err.ensures.verify_granted;
-      }) _ _ _ _ c.refuse.result c.refuse.ensures.refuses,
+      }) _ c.refuse.ensures.refuses,
 )
 
 pub returns-in-Err-clause-runs : goal.returns-in-Err-clause-runs
 returns-in-Err-clause-runs g c =
-    refused_runs _ _ (map string_bytes c.args.words.now)
-    (file_seen g.S.Store.contents g.S.Store.fails c.args.store.now) _ _ _ _ _ _
+    refused_runs _ (map string_bytes c.args.words.now)
+    (file_seen g.S.Store.contents g.S.Store.fails c.args.store.now) _ _
     (asks (map string_bytes c.args.words.now) (are_texts c.args.words.now)) c.in-Err.refusal (record {
       plain = c.in-Err.ensures.granted;
       check = c.in-Err.ensures.check_granted;

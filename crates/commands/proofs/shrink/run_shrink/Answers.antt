@@ -14,17 +14,17 @@ pub returns-in-Err-clause-runs : goal.returns-in-Err-clause-runs
 returns-in-Err-clause-runs g c =
     unread_shrink (Vec ℕ Global) (reader_seen g.S.Source.to_come g.S.Source.fails c.args.schema.now) c.in-Err.fault
     c.unread.result c.unread.ensures (choice_of c.args.choice.now) c.args.choice.now.strict
-    (reader_seen g.F.Source.to_come g.F.Source.fails c.args.file.now) _ _ _ _ _ _ c.tell_fault.result
+    (reader_seen g.F.Source.to_come g.F.Source.fails c.args.file.now) _ _ _
     (λ e. c.in-Err.ensures.too_large (ap Err e)) c.in-Err.ensures.told c.tell_fault.ensures
 
 pub returns-in-Ok-shrink-clause-runs : goal.returns-in-Ok-shrink-clause-runs
 returns-in-Ok-shrink-clause-runs g c =
     read_shrink (reader_seen g.S.Source.to_come g.S.Source.fails c.args.schema.now)
     (reader_seen g.F.Source.to_come g.F.Source.fails c.args.file.now) _ c.in-Ok.text.items (choice_of c.args.choice.now)
-    c.args.choice.now.strict _ _ _ _ _ _ _ _ c.tell_merge.result (Ok c.in-Ok-shrink.summary) c.in-Ok.ensures.all
+    c.args.choice.now.strict _ _ _ (Ok c.in-Ok-shrink.summary) c.in-Ok.ensures.all
     c.in-Ok.ensures.told
     (subst (λ text. Shrinks (choice_of c.args.choice.now) c.args.choice.now.strict (Some text)
-    (g.F.Source.to_come c.args.file.now) (written_to g.W.Sink.held c.args.smaller.now c.shrink.new.out)
+    (g.F.Source.to_come c.args.file.now) (written_to g.W.Sink.held c.args.output.now c.shrink.new.out)
     (written_to g.C.Sink.held c.args.certificate.now c.shrink.new.certificate) (Ok c.in-Ok-shrink.summary))
     c.deref.ensures.value c.in-Ok-shrink.ensures.shrinks) c.in-Ok-shrink.ensures.no_schema_fault
     c.in-Ok-shrink.ensures.file_told c.in-Ok-shrink.ensures.output_fault c.in-Ok-shrink.ensures.certificate_fault
@@ -34,47 +34,47 @@ pub returns-clause-runs : goal.returns-clause-runs
 returns-clause-runs g c =
     read_shrink (reader_seen g.S.Source.to_come g.S.Source.fails c.args.schema.now)
     (reader_seen g.F.Source.to_come g.F.Source.fails c.args.file.now) _ c.in-Ok.text.items (choice_of c.args.choice.now)
-    c.args.choice.now.strict _ _ _ _ _ _ _ _ c.tell_fault-in-Err-shrink.result (Err c.in-Err-shrink.fault)
+    c.args.choice.now.strict _ _ _ (Err c.in-Err-shrink.fault)
     c.in-Ok.ensures.all c.in-Ok.ensures.told
     (subst (λ text. Shrinks (choice_of c.args.choice.now) c.args.choice.now.strict (Some text)
-    (g.F.Source.to_come c.args.file.now) (written_to g.W.Sink.held c.args.smaller.now c.shrink.new.out)
+    (g.F.Source.to_come c.args.file.now) (written_to g.W.Sink.held c.args.output.now c.shrink.new.out)
     (written_to g.C.Sink.held c.args.certificate.now c.shrink.new.certificate) (Err c.in-Err-shrink.fault))
     c.deref.ensures.value c.in-Err-shrink.ensures.shrinks) c.in-Err-shrink.ensures.no_schema_fault
     c.in-Err-shrink.ensures.file_told c.in-Err-shrink.ensures.output_fault c.in-Err-shrink.ensures.certificate_fault
     c.tell_fault-in-Err-shrink.ensures
 
 pub returns-in-Err-clause-device : goal.returns-in-Err-clause-device
-returns-in-Err-clause-device g c is schema file smaller certificate out err =
+returns-in-Err-clause-device g c is schema file output certificate out err =
     let other = unread_other Summary roles.Schema c.in-Err.fault c.unread.result c.unread.ensures in
-    one_failed Summary c.unread.result _ _ _ _ c.tell_fault.result _ _ _ _
+    one_failed Summary c.unread.result _ _ _ _ _
     (c.in-Err.ensures.failed schema
     ∙ unread_device Summary roles.Schema c.in-Err.fault c.unread.result c.unread.ensures (Vec ℕ Global)) (file ∙ sym (other roles.File refl))
-    (smaller ∙ sym (other roles.Output refl)) (certificate ∙ sym (other roles.Certificate refl)) c.tell_fault.ensures is out err
+    (output ∙ sym (other roles.Output refl)) (certificate ∙ sym (other roles.Certificate refl)) c.tell_fault.ensures is out err
 
 pub returns-clause-device : goal.returns-clause-device
-returns-clause-device g c is schema file smaller certificate out err =
-    one_failed Summary c.in-Err-shrink.fault _ _ _ _ c.tell_fault-in-Err-shrink.result _ _ _ _
+returns-clause-device g c is schema file output certificate out err =
+    one_failed Summary c.in-Err-shrink.fault _ _ _ _ _
     (c.in-Ok.ensures.failed schema ∙ sym c.in-Err-shrink.ensures.no_schema_fault)
-    (c.in-Err-shrink.ensures.file_fault file) (c.in-Err-shrink.ensures.output_fault smaller)
+    (c.in-Err-shrink.ensures.file_fault file) (c.in-Err-shrink.ensures.output_fault output)
     (c.in-Err-shrink.ensures.certificate_fault certificate) c.tell_fault-in-Err-shrink.ensures is out err
 
 pub returns-in-Err-clause-schema_failed : goal.returns-in-Err-clause-schema_failed
 returns-in-Err-clause-schema_failed g c fresh fails =
-    device_ends Summary roles.Schema c.unread.result _ _ _ _ c.tell_fault.result c.tell_fault.ensures
+    device_ends Summary roles.Schema c.unread.result _ c.tell_fault.ensures
     (sym (c.in-Err.ensures.failed fresh
     ∙ unread_device Summary roles.Schema c.in-Err.fault c.unread.result c.unread.ensures (Vec ℕ Global)) ∙ fails)
 
 pub returns-clause-file_failed : goal.returns-clause-file_failed
 returns-clause-file_failed g c fresh fails =
-    device_ends Summary roles.File c.in-Err-shrink.fault _ _ _ _ c.tell_fault-in-Err-shrink.result
+    device_ends Summary roles.File c.in-Err-shrink.fault _
     c.tell_fault-in-Err-shrink.ensures (sym (c.in-Err-shrink.ensures.file_fault fresh) ∙ fails)
 
-pub returns-clause-smaller_failed : goal.returns-clause-smaller_failed
-returns-clause-smaller_failed g c fresh fails =
-    device_ends Summary roles.Output c.in-Err-shrink.fault _ _ _ _ c.tell_fault-in-Err-shrink.result
+pub returns-clause-output_failed : goal.returns-clause-output_failed
+returns-clause-output_failed g c fresh fails =
+    device_ends Summary roles.Output c.in-Err-shrink.fault _
     c.tell_fault-in-Err-shrink.ensures (sym (c.in-Err-shrink.ensures.output_fault fresh) ∙ fails)
 
 pub returns-clause-certificate_failed : goal.returns-clause-certificate_failed
 returns-clause-certificate_failed g c fresh fails =
-    device_ends Summary roles.Certificate c.in-Err-shrink.fault _ _ _ _ c.tell_fault-in-Err-shrink.result
+    device_ends Summary roles.Certificate c.in-Err-shrink.fault _
     c.tell_fault-in-Err-shrink.ensures (sym (c.in-Err-shrink.ensures.certificate_fault fresh) ∙ fails)

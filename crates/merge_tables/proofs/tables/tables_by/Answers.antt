@@ -2,12 +2,8 @@ use Rattle.std.proofs.Common.{sym, subst}
 use Rattle.step_equal.specs.Standard.{IsStandard}
 use Rattle.step_equal.specs.TableViews.{table_of}
 use Rattle.step_pins.specs.Pinned.{is_pinned}
+use Rattle.merge_tables.proofs.Last.{standard-last}
 use Rattle.merge_tables.proofs.tables.tables_by.Goals as goal
-
-pub second_table-requires-clause-first : goal.second_table-requires-clause-first
-second_table-requires-clause-first c are_weak =
-    subst (λ p. IsStandard c.args.rows p (table_of c.in_ok-first.first))
-    (λ i y. sym (c.in_ok-gentle.ensures.weak.0 are_weak y) i) c.in_ok-first.ensures
 
 pub returns : goal.returns
 returns c s is are unique = record {
@@ -17,5 +13,8 @@ returns c s is are unique = record {
   pinned = is_pinned c.in_ok-gentle.gentle.pins;
   gentle = c.in_ok-gentle.ensures.pins s is unique;
   first_is = c.in_ok-first.ensures;
-  second_is = c.in_ok-second.ensures;
+  second_is = standard-last c.args.rows (is_pinned c.in_ok-gentle.gentle.pins) c.in_ok-first.first c.in_ok-second.second _
+      c.in_ok-second.ensures
+      (λ are_weak. subst (λ p. IsStandard c.args.rows p (table_of c.in_ok-first.first))
+      (λ i y. sym (c.in_ok-gentle.ensures.weak.0 are_weak y) i) c.in_ok-first.ensures);
 }

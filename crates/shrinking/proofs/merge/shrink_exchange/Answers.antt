@@ -20,10 +20,10 @@ returns-in-Ok-write_both-clause-shrinks g c = λ names are bytes within reads.
     let s = the_schema c.args.graph.types.names in
     let x = c.args.exchange.now in
     let first = table_of c.in-Clean.first in
-    let second = table_of c.in-Clean.second in
+    let second = table_of c.last_of-last.result.now in
     let said = c.summary-summary in
     let tabled = is_tabled s names bytes x c.in-Ok.merging c.in-Clean.unknown c.in-Clean.first c.in-Clean.second
-    c.in-Clean.is (c.in-Ok.ensures.merges names are) reads in
+    c.last_of-last.result.now c.in-Clean.is c.last_of-last.ensures (c.in-Ok.ensures.merges names are) reads in
     all_written s names bytes (written_to g.O.Sink.held c.args.out.now c.write_both.new.out)
     (written_to g.C.Sink.held c.args.certificate.now c.write_both.new.certificate) (smaller_text x second)
     (certificate_text first second) said.result
@@ -36,10 +36,10 @@ returns-clause-shrinks g c = λ names are bytes within reads.
     let s = the_schema c.args.graph.types.names in
     let x = c.args.exchange.now in
     let first = table_of c.in-Clean.first in
-    let second = table_of c.in-Clean.second in
+    let second = table_of c.last_of-last.result.now in
     let said = c.summary-summary in
     let tabled = is_tabled s names bytes x c.in-Ok.merging c.in-Clean.unknown c.in-Clean.first c.in-Clean.second
-    c.in-Clean.is (c.in-Ok.ensures.merges names are) reads in
+    c.last_of-last.result.now c.in-Clean.is c.last_of-last.ensures (c.in-Ok.ensures.merges names are) reads in
     cut s names bytes (written_to g.O.Sink.held c.args.out.now c.write_both.new.out)
     (written_to g.C.Sink.held c.args.certificate.now c.write_both.new.certificate) (smaller_text x second)
     (certificate_text first second) said.result c.in-Err-write_both.fault c.of_file.result c.of_file.ensures

@@ -28,9 +28,9 @@ returns-in-Ok-clause-file_failed g c = λ fresh.
     c.in-Ok.ensures.file_failed fresh
     ∙ sym (no_device _ _ _ _ (choice_of c.args.choice.now) roles.File c.verify_texts.result c.verify_texts.ensures)
 
-pub returns-in-Ok-clause-smaller_failed : goal.returns-in-Ok-clause-smaller_failed
-returns-in-Ok-clause-smaller_failed g c = λ fresh.
-    c.in-Ok.ensures.smaller_failed fresh
+pub returns-in-Ok-clause-output_failed : goal.returns-in-Ok-clause-output_failed
+returns-in-Ok-clause-output_failed g c = λ fresh.
+    c.in-Ok.ensures.output_failed fresh
     ∙ sym (no_device _ _ _ _ (choice_of c.args.choice.now) roles.Output c.verify_texts.result c.verify_texts.ensures)
 
 pub returns-in-Ok-clause-certificate_failed : goal.returns-in-Ok-clause-certificate_failed

@@ -13,13 +13,13 @@ use Rattle.class_parts.proofs.parts.Parts.part_by_pairs.Goals as goal
 
 pub part_by_runs-requires-clause-places : goal.part_by_runs-requires-clause-places
 part_by_runs-requires-clause-places c =
-    subst (All (λ a. a.place < size (layout c.args.self.now))) (sym c.deref.ensures.value)
+    subst (All (λ a. a.place < size (layout c.args.self.now))) (sym c.deref-2.ensures.value)
     (All-permutation (λ a. a.place < size (layout c.args.self.now)) c.args.pairs.items
     c.sort_unstable_by_key.new.self.items c.sort_unstable_by_key.ensures.permutation c.requires.places)
 
 pub part_by_runs-requires-clause-together : goal.part_by_runs-requires-clause-together
 part_by_runs-requires-clause-together c =
-    subst AreTogether (sym c.deref.ensures.value) (together c.sort_unstable_by_key.new.self.items
+    subst AreTogether (sym c.deref-2.ensures.value) (together c.sort_unstable_by_key.new.self.items
     (c.sort_unstable_by_key.ensures.sorted key_of (answers_always _ _ _ (λ f a r g h. search rules))))
 
 pub returns : goal.returns
@@ -29,4 +29,4 @@ returns c =
     let ps : List Pair = c.sort_unstable_by_key.new.self.items in
     on_ok_weaker c.part_by_runs.result
     (λ h. parted_by_given p q c.args.pairs.items ps c.sort_unstable_by_key.ensures.permutation
-    (subst (IsPartedByPairs p q) c.deref.ensures.value h)) c.part_by_runs.ensures
+    (subst (IsPartedByPairs p q) c.deref-2.ensures.value h)) c.part_by_runs.ensures

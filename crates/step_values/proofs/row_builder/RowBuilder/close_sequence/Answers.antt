@@ -24,7 +24,8 @@ invariant_of-self-2 c =
     rw (c.in_ok-push_or_clear.ensures.cells, c.in_ok-push_or_clear.ensures.runs)
     (parent_pushed v.names.now v.cells v.runs.items c.args.mark c.close-run.result new h (Sequence c.close-run.result)
     (sequence (all_of inside)) (omega (arith, end)) refl (ap (λ l. sequence (all_of l)) h.moved)
-    (ap suc (nodes_all inside)) (λ k i. i.0))
+    (ap suc (nodes_all inside)) (λ k i. i.0)
+    (λ k from to. (from, omega (arith, to, end))))
 
 pub returns : goal.returns
 returns c =

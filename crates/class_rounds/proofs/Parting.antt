@@ -1,83 +1,16 @@
--- Indices with their numbers as keys, and what a round's pairs part.
-use Rattle.std.proofs.Common.{◌≡◌, ◌≢◌, ◌≤◌, ◌<◌, ℕ, ◌+◌, List, [], ◌∷◌, ◌++◌, refl, sym, ◌∙◌, ap, subst, inl, inr, length, get_or, arith}
+-- What a round's pairs part.
+use Rattle.std.proofs.Common.{◌≡◌, ◌≢◌, ◌≤◌, ◌<◌, ℕ, List, refl, sym, ◌∙◌, ap, subst, inl, inr, length, arith}
 use Rattle.std.specs.Prelude.{◌↔◌, slice_index}
-use Rattle.std.specs.List.{Contains, All, range_with_len}
-use Rattle.std.specs.List.Sorted.{IsPermutation}
 use Rattle.std.proofs.lemmas.Bool.{cases_eq, cases_lt}
-use Rattle.std.proofs.lemmas.List.{get_or_default}
-use Rattle.std.proofs.lemmas.List.Elements.{Contains-append_left, Contains-push}
 use Rattle.class_parts.specs.declared.pairs.Pair.{Pair}
 use Rattle.class_parts.specs.Laid.{Layout, size, count, class_in}
-use Rattle.class_parts.specs.Parted.{IsAmongFirst, HasPair, HaveSamePairs, IsPartedByPairs}
-use Rattle.class_parts.proofs.Below.{all_below, each_among}
+use Rattle.class_parts.specs.Parted.{HasPair, HaveSamePairs, IsPartedByNumbers, IsPartedByPairs}
 use Rattle.class_parts.proofs.Sets.{finer_trans}
 use Rattle.class_rounds.specs.declared.edges.Edge.{Edge}
 use Rattle.class_rounds.specs.Edges.{HasEdge, AreEdges, AgreeAt, ReferAlike}
 use Rattle.class_rounds.specs.Rounds.{OneClass}
-use Rattle.class_rounds.specs.Steps.{AgreeBelow, AreKeyed, Gathers, IsAlone, IsRound, IsFirstRound}
-use Rattle.class_rounds.proofs.Gathering.{pair, one_more}
-
--- the first n of these indices
-pub record AreKeyedFirst (numbers places : List ℕ) (n : ℕ) (ps : List Pair) : Type 0 where
-  pub sound : (c i x : ℕ) → HasPair ps c i x → IsAmongFirst places n x × (slice_index numbers x ≡ c) × (i ≡ 0)
-  pub complete : (x : ℕ) → IsAmongFirst places n x → HasPair ps (slice_index numbers x) 0 x
-
-pub keyed_more : (numbers places : List ℕ) (n y k : ℕ) (ps qs : List Pair) → AreKeyedFirst numbers places n ps
-    → y ≡ slice_index places n → k ≡ slice_index numbers y → qs ≡ ps ++ pair k 0 y ∷ []
-    → AreKeyedFirst numbers places (n + 1) qs
-keyed_more numbers places n y k ps qs a y_is k_is is = record {
-  sound = λ c i x h.
-      elim (one_more ps (pair k 0 y) (pair c i x) (subst (λ l. HasPair l c i x) is h)) [
-        | inl old ↦ let s = a.sound c i x old in let l = s.0.1 in ((s.0.0, omega arith, s.0.2), s.1, s.2)
-        | inr new ↦
-            let place : x ≡ y = ap (λ b. b.place) new in (
-              (n, omega arith, sym y_is ∙ sym place),
-              ap (slice_index numbers) place ∙ sym k_is ∙ sym (ap (λ b. b.class) new),
-              ap (λ b. b.position) new,
-            )
-      ];
-  complete = λ x l. subst (λ l. HasPair l (slice_index numbers x) 0 x) (sym is) (elim (cases_lt l.0 n) [
-    | inl b ↦ Contains-append_left ps (pair k 0 y ∷ []) (pair (slice_index numbers x) 0 x) (a.complete x (l.0, b, l.2))
-    | inr b ↦
-        let m = l.1 in
-        let at : n ≡ l.0 = omega arith in
-        let same : y ≡ x = y_is ∙ ap (slice_index places) at ∙ l.2 in
-        let key : k ≡ slice_index numbers x = k_is ∙ ap (slice_index numbers) same in
-        subst (Contains (ps ++ pair k 0 y ∷ [])) (λ j. pair (key j) 0 (same j)) (Contains-push ps (pair k 0 y))
-  ]);
-}
-
-pub keyed_all : (numbers places : List ℕ) (n : ℕ) (ps : List Pair) → n ≡ length places
-    → IsPermutation (range_with_len 0 (length numbers)) places → AreKeyedFirst numbers places n ps
-    → AreKeyed numbers ps
-keyed_all numbers places n ps e moved a = record {
-  sound = λ c i x h.
-      let s = a.sound c i x h in
-      let l = s.0.1 in
-      let below = all_below (length numbers) places moved s.0.0 (omega arith) in
-      let is = s.0.2 in
-      (omega arith, s.1, s.2);
-  complete = λ x l. let at = each_among (length numbers) places moved x l in let m = at.1 in a.complete x (at.0, omega arith, at.2);
-}
-
-pub keyed_places : (numbers : List ℕ) (ps : List Pair) (n : ℕ) → AreKeyed numbers ps → length numbers ≡ n
-    → All (λ a. a.place < n) ps
-keyed_places numbers ps n a e k d l =
-    let b : Pair = get_or ps k d in
-    let s = a.sound b.class b.position b.place (k, l, get_or_default ps k b d l) in
-    let m = s.0 in omega arith
-
-same_numbers : (numbers : List ℕ) (ps : List Pair) (x z : ℕ) → AreKeyed numbers ps → x < length numbers
-    → z < length numbers → HaveSamePairs ps x z ↔ (slice_index numbers x ≡ slice_index numbers z)
-same_numbers numbers ps x z a l m = (
-  λ h. sym (a.sound (slice_index numbers x) 0 z ((h (slice_index numbers x) 0).0 (a.complete x l))).1,
-  λ e c i. (
-    λ h. let s = a.sound c i x h in
-        subst (λ j. HasPair ps c j z) (sym s.2) (subst (λ k. HasPair ps k 0 z) (sym e ∙ s.1) (a.complete z m)),
-    λ h. let s = a.sound c i z h in
-        subst (λ j. HasPair ps c j x) (sym s.2) (subst (λ k. HasPair ps k 0 x) (e ∙ s.1) (a.complete x l)),
-  ),
-)
+use Rattle.class_rounds.specs.Steps.{AgreeBelow, Gathers, IsAlone, IsRound, IsFirstRound}
+use Rattle.class_rounds.proofs.Gathering.{pair}
 
 -- pairs of the classes from `low` on, by which the places of a group are parted
 module _ (edges : List Edge) (p groups : Layout) (low : ℕ) (ps : List Pair)
@@ -168,10 +101,9 @@ module _ (edges : List Edge) (p : Layout) (low : ℕ) (ps : List Pair) (known : 
         ];
   }
 
-  pub first_parts : (q r : Layout) (shapes : List ℕ) (ks : List Pair) → low ≤ 1 → length shapes ≡ size p
-      → ReferAlike edges shapes → AreKeyed shapes ks → IsPartedByPairs p q ks → IsPartedByPairs q r ps
-      → IsFirstRound edges shapes p r
-  first_parts q r shapes ks low_is each alike keyed one two =
+  pub first_parts : (q r : Layout) (shapes : List ℕ) → low ≤ 1 → length shapes ≡ size p → ReferAlike edges shapes
+      → IsPartedByNumbers p q shapes → IsPartedByPairs q r ps → IsFirstRound edges shapes p r
+  first_parts q r shapes low_is each alike one two =
       let sizes = one.finer.places in
       -- there is but one class below
       let below : (x z : ℕ) → x < size p → z < size p → slice_index shapes x ≡ slice_index shapes z
@@ -186,7 +118,6 @@ module _ (edges : List Edge) (p : Layout) (low : ℕ) (ps : List Pair) (known : 
         parts = λ x z l m.
             let a = one.parts x z l m in
             let b = two.parts x z (omega arith) (omega arith) in
-            let same = same_numbers shapes ks x z keyed (omega arith) (omega arith) in
             let agree : x ≢ z → class_in p x ≡ class_in p z → slice_index shapes x ≡ slice_index shapes z
             → HaveSamePairs ps x z ↔ AgreeAt edges (OneClass p) x z =
             λ n classes shape. pairs_agree edges p p low ps known are g x z n l m classes (below x z l m shape)
@@ -204,9 +135,8 @@ module _ (edges : List Edge) (p : Layout) (low : ℕ) (ps : List Pair) (known : 
                 λ e.
                     let f = b.0 e in
                     let both = a.0 f.0 in
-                    let shape = same.0 both.1 in
-                    (both.0, shape, (agree n both.0 shape).0 f.1),
-                λ h. b.1 (a.1 (h.0, same.1 h.1), (agree n h.0 h.1).1 h.2),
+                    (both.0, both.1, (agree n both.0 both.1).0 f.1),
+                λ h. b.1 (a.1 (h.0, h.1), (agree n h.0 h.1).1 h.2),
               )
             ];
       }
