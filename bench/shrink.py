@@ -8,13 +8,15 @@ bench/check.py, and runs both commands on each, the best of five runs. Prints th
 of that of `check`, its memory beside the size of the file, and how many instances are kept.
 
 The files: `points` and `parts` as bench/check.py makes them, where all entities are chosen; `points` also by
-the schemas with rules of the population and with domain rules, and twice as large; `numbers`, `references`, `referrers`
-and `words` of bench/check.py, the last two by the schema with rules of the population. And nodes that refer to each
-other, as long a file each: a `cycle`, all nodes of which are one; a `chain` that is parted one node a
-round, from its end; and a `reversed` chain, whose nodes come in the other order.
+the schemas with rules of the population and with domain rules, and twice as large; `parts` also with points, directions
+and placements chosen, as users do; `plates`, the plate of examples/ over and over, by its schema, with the same choice;
+`numbers`, `references`, `referrers` and `words` of bench/check.py, the last two by the schema with rules of the population.
+And nodes that refer to each other, as long a file each: a `cycle`, all nodes of which are one; a `chain` that is parted
+one node a round, from its end; and a `reversed` chain, whose nodes come in the other order.
 """
 import argparse
 import os
+import re
 import subprocess
 import sys
 import tempfile
@@ -28,6 +30,8 @@ ENTITY bundle; members : SET [1:?] OF node; END_ENTITY;
 END_SCHEMA;
 """
 CHOSEN = "POINT,DIRECTION,PLACEMENT,LOOP,SHAPE,SOLID,MARKED,FACE"
+USUAL = "POINT,DIRECTION,PLACEMENT"
+EXAMPLES = os.path.join(os.path.dirname(os.path.dirname(os.path.abspath(__file__))), "examples")
 SCHEMAS = {"": {}, "rules of the population": RULES, "domain rules": DOMAIN_RULES}
 
 
@@ -51,9 +55,17 @@ def reversed_chain(size):
     return lines + [f"#{len(lines) + 1}=BUNDLE((#1));\n"]
 
 
-def write(path, lines):
+def plates(size):
+    """The plate again and again, each with names of its own."""
+    with open(os.path.join(EXAMPLES, "plate.stp"), encoding="ascii") as file:
+        body = re.search(r"^DATA;\n(.*?)^ENDSEC;", file.read(), re.DOTALL | re.MULTILINE)[1]
+    most = max(map(int, re.findall(r"#(\d+)", body)))
+    return [re.sub(r"#(\d+)", lambda it: f"#{int(it[1]) + most * k}", body) for k in range(size // len(body))]
+
+
+def write(path, lines, header=HEADER):
     with open(path, "w", encoding="ascii") as file:
-        file.write(HEADER)
+        file.write(header)
         file.writelines(lines)
         file.write(FOOTER)
 
@@ -64,10 +76,10 @@ def kept(program, words):
     return next(line.split()[1] for line in said.splitlines() if line.startswith("kept "))
 
 
-def measure(name, lines, program, schema, chosen, folder):
+def measure(name, lines, program, schema, chosen, folder, header=HEADER):
     """The seconds of `shrink`, and of `check`."""
     path, out, certificate = (os.path.join(folder, it) for it in ("file.stp", "out.stp", "cert.txt"))
-    write(path, lines)
+    write(path, lines, header)
     length = os.path.getsize(path)
     words = ["shrink", schema, path, out, certificate, "--merge", chosen]
     checked, _ = run([program, "check", schema, path])
@@ -89,6 +101,7 @@ def main():
             paths[what] = os.path.join(folder, f"schema{len(paths)}.exp")
             with open(paths[what], "w", encoding="ascii") as file:
                 file.write(text)
+        paths["plates"] = os.path.join(EXAMPLES, "geo.exp")
         points, parts = FILES["points"][0], FILES["parts"][0]
         plain = measure("points", points(size), words.program, paths[""], CHOSEN, folder)
         twice = measure("points", points(2 * size), words.program, paths[""], CHOSEN, folder)
@@ -96,6 +109,8 @@ def main():
         for what in (it for it in SCHEMAS if it):
             measure(f"points, {what}", points(size), words.program, paths[what], CHOSEN, folder)
         measure("parts", parts(size // 2), words.program, paths[""], CHOSEN, folder)
+        measure("parts, the usual choice", parts(size // 2), words.program, paths[""], USUAL, folder)
+        measure("plates", plates(size // 2), words.program, paths["plates"], USUAL, folder, HEADER.replace("BENCH", "GEO"))
         for name in ("numbers", "references"):
             measure(name, FILES[name][0](size), words.program, paths[""], CHOSEN, folder)
         for name in ("referrers", "words"):

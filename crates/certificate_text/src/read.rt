@@ -9,7 +9,7 @@ ghost use Rattle.certificate_text.specs.declared.reader.Part.TheVariants.{Openin
 
 use crate::fault::CertFault;
 use crate::reader::{Part, Reader, take_line};
-use memchr::{memchr, memchr_iter};
+use memchr::memchr;
 use std::alloc::{AllocError, Global};
 use step_equal::table::Table;
 
@@ -23,18 +23,25 @@ const MEMBER_BYTES: usize = 12;
 /// class begins by the last round, and the class of each member is there. A name may stand twice
 /// among the members.
 ///
+/// Room is asked for at once for so many members of each table, or for as many as the text can have
+/// where these are fewer; there may be others than these, or none.
+///
 /// `OldVersion` (C6) comes where the first line is `STEPCERT 1` and a line feed ends it, whatever
 /// follows. Else `BadText` (C1) comes where the text is no certificate: its line, counted from 1, is
 /// the first with which no certificate goes on. `Memory` comes where memory runs out. The limit of
 /// 2^40 bytes is the caller's to test.
-pub fn read_certificate(alloc: Global, text: &[u8]) -> Result<(Table, Table), CertFault>
+pub fn read_certificate(
+    alloc: Global,
+    text: &[u8],
+    members: usize,
+) -> Result<(Table, Table), CertFault>
     ensures tables { IfOk result (λ p. IsCertificate text.now (table_of p.0) (table_of p.1)) }
     ensures fault { IfErr result (IsFaultOf text.now) }
 {
     if is_old(text) {
         return Err(CertFault::OldVersion);
     }
-    let members = expected_members(text);
+    let members = members.min(text.len() / MEMBER_BYTES);
     let mut reader = Reader {
         part: Part::Opening,
         first: empty_table(alloc, members)?,
@@ -49,12 +56,6 @@ fn is_old(text: &[u8]) -> bool
     ensures { MatchBool result (IsOld text.now) (IsOld text.now → ⊥) }
 {
     text.strip_prefix(b"STEPCERT 1\n").is_some()
-}
-
-/// How many members each table seems to have, since both have as many: one for two `#` of the text.
-fn expected_members(text: &[u8]) -> usize {
-    let found = memchr_iter(b'#', text).count();
-    (found / 2).min(text.len() / MEMBER_BYTES)
 }
 
 /// A table of which nothing was read yet, with room for so many members.

@@ -159,7 +159,7 @@ const BAD: &'static [BadText] = &[
 
 /// Whether a text has this fault, or is a certificate where it is none.
 fn has(alloc: Global, text: &[u8], fault: Option<CertFault>) -> bool {
-    match read_certificate(alloc, text) {
+    match read_certificate(alloc, text, 0) {
         Ok(_) => fault.is_none(),
         Err(found) => fault == Some(found),
     }

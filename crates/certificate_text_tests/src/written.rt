@@ -86,7 +86,7 @@ fn wrong_room(alloc: Global, first: &Table, second: &Table) -> Option<usize> {
 
 /// Whether the text is read as these tables.
 fn is_read(alloc: Global, first: &Table, second: &Table) -> bool {
-    match read_certificate(alloc, TEXT) {
+    match read_certificate(alloc, TEXT, 2) {
         Ok((one, other)) => one == *first && other == *second,
         Err(_) => false,
     }

@@ -1,4 +1,4 @@
-mod Noting
+mod Determining
 mod Starting
 mod SplitOff
 mod Sharing

@@ -12,8 +12,8 @@ use Rattle.step_equal.specs.Rows.{Row, IsPopulation, names}
 use Rattle.step_equal.specs.Standard.{IsWellFormed}
 use Rattle.step_equal.specs.Tables.{Table, HasMembers, shares}
 use Rattle.judged_grounds.specs.Splits.{SplitsHaveGrounds}
-use Rattle.row_shapes.specs.Signatures.{AreReferences, AreShapes}
-use Rattle.row_shapes.proofs.Agreeing.{agree_by_places}
+use Rattle.row_shapes.specs.Signatures.{AreReferences, AreShapes, none_pinned}
+use Rattle.row_shapes.proofs.Agreeing.{agree_by_all}
 use Rattle.row_shapes.proofs.Naming.{one_place, placed, stands}
 use Rattle.judged_grounds.specs.ComputedSplits.{AreBirthsOf, AreOwn}
 use Rattle.judged_grounds.proofs.Sharing.{as_many, shared_on, shared_self, shares_where}
@@ -72,7 +72,7 @@ module _ (P : List Row) (pinned : ℕ → Bool) (t : Table) (population : IsPopu
               λ h. (shared round x z l k).1 h.1,
             )
 
-  module _ (edges : List Edge) (refer : AreReferences P edges) (shapes : List ℕ) (shaped : AreShapes P shapes) where
+  module _ (edges : List Edge) (refer : AreReferences P edges) (shapes : List ℕ) (shaped : AreShapes P none_pinned shapes) where
     abbrev Under : ℕ → ℕ → ℕ → Type 0
     Under round y w = under pinned (shares t round) (at y) (at w) ≡ true
 
@@ -91,7 +91,7 @@ module _ (P : List Row) (pinned : ℕ → Bool) (t : Table) (population : IsPopu
         let agree : AgreeUnder P pinned (shares t round) (at s.place) (at u.place) =
         subst (λ y. AgreeUnder P pinned (shares t round) y (at u.place)) (sym s.index_is)
         (subst (λ w. AgreeUnder P pinned (shares t round) x w) (sym u.index_is) a) in
-        let parts = (agree_by_places P pinned (shares t round) population edges refer shapes shaped s.place u.place l
+        let parts = (agree_by_all P pinned (shares t round) population edges refer shapes shaped s.place u.place l
         k).0 agree in
         let still = (shared (round + 1) s.place u.place l k).1 (grounds round s.place u.place
         (omega (arith, l, long)) (omega (arith, k, long)) ((shared round s.place u.place l k).0 together) parts.0
@@ -105,7 +105,7 @@ module _ (P : List Row) (pinned : ℕ → Bool) (t : Table) (population : IsPopu
       | inl lt ↦ (let l : x < length P = omega (arith, lx, long) in
           let k : z < length P = omega (arith, lz, long) in
           (shared (round + 1) x z l k).0 (next round (at x) (at z) lt ((shared round x z l k).1 s)
-          ((agree_by_places P pinned (shares t round) population edges refer shapes shaped x z l k).1 (
+          ((agree_by_all P pinned (shares t round) population edges refer shapes shaped x z l k).1 (
             shape,
             agree_map edges (length P) (StandForOne own (Shared births last round)) (Under round) x z refer.are
                 (λ y w i j h. (stand_where round y w i j).1 h) agree,

@@ -8,7 +8,7 @@ use Rattle.step_equal.specs.Tables.{Table, shares, class_at, same_class}
 use Rattle.judged_tables.specs.ClassesAt.{AreClassesAt}
 use Rattle.judged_tables.proofs.AtRounds.{one_class}
 use Rattle.row_shapes.proofs.Naming.{placed, stands}
-use Rattle.judged_grounds.specs.ComputedNotes.{Determine}
+use Rattle.judged_grounds.specs.ComputedStarts.{Determine}
 
 -- the classes of two instances at a round
 one_at : (t : Table) (round x z c d : ℕ) → class_at t x round ≡ Some c → class_at t z round ≡ Some d

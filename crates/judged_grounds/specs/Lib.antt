@@ -1,4 +1,4 @@
 pub mod TableFaults
 pub mod Splits
-pub mod ComputedNotes
+pub mod ComputedStarts
 pub mod ComputedSplits

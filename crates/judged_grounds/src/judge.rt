@@ -5,7 +5,7 @@ ghost use Rattle.step_equal.specs.Maps.{is_pinned};
 ghost use Rattle.step_equal.specs.Standard.{IsWellFormed};
 ghost use Rattle.step_equal.specs.Tables.{HasMembers, IsGrounded, IsValid, shares};
 ghost use Rattle.step_equal.specs.TableViews.{table_of};
-ghost use Rattle.row_shapes.specs.Signatures.{AreSignatures};
+ghost use Rattle.row_shapes.specs.Signatures.{AreSignatures, none_pinned};
 ghost use Rattle.judged_grounds.specs.TableFaults.{IsFaultOf};
 
 use crate::fault::TableFault;
@@ -13,7 +13,7 @@ use crate::splits::splits_have_grounds;
 use crate::starts::starts_together;
 use judged_tables::members::names_match;
 use judged_tables::stable::is_stable;
-use row_shapes::signatures::{Signatures, signatures_of};
+use row_shapes::signatures::{Signatures, all_signatures};
 use std::alloc::{AllocError, Global};
 use std::collections::BTreeSet;
 use std::hash::RandomState;
@@ -38,11 +38,12 @@ pub fn judge<'a>(
         (λ _. IsValid input.now (is_pinned pinned.now) (table_of table.now))
         (IsFaultOf input.now (is_pinned pinned.now) (table_of table.now)) }
 {
-    let signatures = signatures_of(alloc, keys, input)?;
+    let signatures = all_signatures(alloc, keys, input)?;
     judge_by(alloc, keys, input, pinned, &signatures, table)
 }
 
-/// Judges a table as [`judge`] does, where the signatures of the rows are known.
+/// Judges a table as [`judge`] does, where the signatures of all rows are known: classes of a table that somebody made may
+/// hold pinned instances and others, until a round that parts them, and whether it has a ground their values tell.
 ///
 /// Where the members aren't the names of the instances, in order, the fault is `Members`; else where
 /// a start or a split has no ground, `Ground`; else where the last round isn't stable, `Stable`.
@@ -56,7 +57,7 @@ pub fn judge_by<'a>(
     table: &Table,
 ) -> Result<(), TableFault>
     requires well_formed { IsWellFormed (table_of table.now) }
-    requires signatures { AreSignatures input.now signatures.now }
+    requires signatures { AreSignatures input.now none_pinned signatures.now }
     ensures { MatchResult result
         (λ _. IsValid input.now (is_pinned pinned.now) (table_of table.now))
         (IsFaultOf input.now (is_pinned pinned.now) (table_of table.now)) }
@@ -84,7 +85,7 @@ fn has_grounds<'a>(
 ) -> Result<bool, AllocError>
     requires members { HasMembers input.now (table_of table.now) }
     requires well_formed { IsWellFormed (table_of table.now) }
-    requires signatures { AreSignatures input.now signatures.now }
+    requires signatures { AreSignatures input.now none_pinned signatures.now }
     ensures { IfOk result (λ b. IsTrue b ↔ IsGrounded input.now (is_pinned pinned.now)
         (shares (table_of table.now)) table.now.rounds) }
 {

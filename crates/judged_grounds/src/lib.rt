@@ -5,7 +5,6 @@
 mod births;
 pub mod fault;
 pub mod judge;
-mod noted;
 mod own;
 pub mod splits;
 pub mod starts;

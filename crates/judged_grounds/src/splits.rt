@@ -5,7 +5,7 @@ ghost use Rattle.step_equal.specs.Maps.{is_pinned};
 ghost use Rattle.step_equal.specs.Standard.{IsWellFormed};
 ghost use Rattle.step_equal.specs.Tables.{HasMembers};
 ghost use Rattle.step_equal.specs.TableViews.{table_of};
-ghost use Rattle.row_shapes.specs.Signatures.{AreSignatures};
+ghost use Rattle.row_shapes.specs.Signatures.{AreSignatures, none_pinned};
 ghost use Rattle.judged_grounds.specs.Splits.{SplitsHaveGrounds};
 
 use crate::births::births_of;
@@ -22,7 +22,7 @@ use step_equal::table::Table;
 /// and whose values agree under it, share one at the next.
 ///
 /// The members of the table are the names of the input, in order, and the signatures are those of
-/// its rows. It takes time by the number of instances, references and classes and the square of its
+/// all its rows. It takes time by the number of instances, references and classes and the square of its
 /// logarithm at most, whatever the table. `AllocError` comes where memory runs out.
 pub fn splits_have_grounds<'a>(
     alloc: Global,
@@ -33,7 +33,7 @@ pub fn splits_have_grounds<'a>(
 ) -> Result<bool, AllocError>
     requires members { HasMembers input.now (table_of table.now) }
     requires well_formed { IsWellFormed (table_of table.now) }
-    requires signatures { AreSignatures input.now signatures.now }
+    requires signatures { AreSignatures input.now none_pinned signatures.now }
     ensures { IfOk result (λ b. IsTrue b
         ↔ SplitsHaveGrounds input.now (is_pinned pinned.now) (table_of table.now)) }
 {

@@ -6,10 +6,9 @@ ghost use Rattle.step_equal.specs.Maps.{is_pinned};
 ghost use Rattle.step_equal.specs.Standard.{IsWellFormed};
 ghost use Rattle.step_equal.specs.Tables.{HasMembers, shares};
 ghost use Rattle.step_equal.specs.TableViews.{table_of};
-ghost use Rattle.judged_grounds.specs.ComputedNotes.{Determine};
+ghost use Rattle.row_shapes.specs.Numbers.{ArePlaces};
+ghost use Rattle.judged_grounds.specs.ComputedStarts.{Determine};
 
-use crate::noted::is_noted;
-use indexmap::IndexMap;
 use judged_tables::classes::classes_at;
 use row_shapes::kinds::kinds;
 use std::alloc::{AllocError, Global};
@@ -21,8 +20,8 @@ use step_equal::table::Table;
 /// Whether any two instances that are alike share a class at round 0: those that stand in one section
 /// and have the same types, and are one where either is pinned.
 ///
-/// The members of the table are the names of the input, in order. Kinds and their numbers are hashed
-/// by these keys. `AllocError` comes where memory runs out.
+/// The members of the table are the names of the input, in order. Kinds are hashed by these keys.
+/// `AllocError` comes where memory runs out.
 pub fn starts_together<'a>(
     alloc: Global,
     keys: RandomState,
@@ -40,24 +39,21 @@ pub fn starts_together<'a>(
     let _rows = input.len();
     let kinds = kinds(alloc, keys, input, pinned)?;
     let classes = classes_at(alloc, input, table, 0)?;
-    determine(alloc, keys, &kinds, &classes)
+    Ok(determine(&kinds, &classes))
 }
 
-/// Whether places with one number among the first have one among the others.
-fn determine(
-    alloc: Global,
-    keys: RandomState,
-    kinds: &[u32],
-    classes: &[u32],
-) -> Result<bool, AllocError>
-    requires { length kinds.now ≡ length classes.now }
-    ensures { IfOk result (λ b. IsTrue b ↔ Determine kinds.now classes.now) }
+/// Whether places with one number among the first have one among the others. Each of the first is a place that has this
+/// number, so it is enough to look there.
+fn determine(kinds: &[u32], classes: &[u32]) -> bool
+    requires each { length kinds.now ≡ length classes.now }
+    requires places { ArePlaces kinds.now }
+    ensures { IsTrue result ↔ Determine kinds.now classes.now }
 {
-    let mut noted = IndexMap::with_hasher(alloc, keys);
     for place in 0..kinds.len() {
-        if !is_noted(&mut noted, kinds[place], classes[place])? {
-            return Ok(false);
+        let first = kinds[place] as usize;
+        if classes[first] != classes[place] {
+            return false;
         }
     }
-    Ok(true)
+    true
 }

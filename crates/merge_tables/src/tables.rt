@@ -30,7 +30,7 @@ fn standard_table(
     pinned: &Pins,
     signatures: &Signatures,
 ) -> Result<Table, AllocError>
-    requires { AreSignatures rows.now signatures.now }
+    requires { AreSignatures rows.now (is_pinned pinned.now) signatures.now }
     ensures { IfOk result (λ t. IsStandard rows.now (is_pinned pinned.now) (table_of t)) }
 {
     let classes = refine_by(alloc, keys, rows, pinned.names(), signatures)?;
@@ -46,7 +46,7 @@ fn last_table(
     pinned: &Pins,
     signatures: Signatures,
 ) -> Result<Table, AllocError>
-    requires { AreSignatures rows.now signatures }
+    requires { AreSignatures rows.now (is_pinned pinned.now) signatures }
     ensures { IfOk result (λ t. IsStandard rows.now (is_pinned pinned.now) (table_of t)) }
 {
     let classes = refine_last(alloc, keys, rows, pinned.names(), signatures)?;
@@ -62,7 +62,7 @@ fn second_table(
     gentle: &GentlePins,
     signatures: Signatures,
 ) -> Result<Option<Table>, AllocError>
-    requires signatures { AreSignatures rows signatures }
+    requires signatures { AreSignatures rows (is_pinned gentle.now.pins) signatures }
     ensures { IfOk result (λ t. MatchOption t (IsTrue gentle.now.are_weak)
         (λ t. IsStandard rows.entry (is_pinned gentle.now.pins) (table_of t))) }
 {
@@ -82,7 +82,7 @@ fn tables_by(
     signatures: Signatures,
 ) -> Result<(Table, Option<Table>), AllocError>
     requires population { IsPopulation rows }
-    requires signatures { AreSignatures rows signatures }
+    requires signatures { AreSignatures rows (is_pinned weak.pins) signatures }
     ensures { (s : Schema) (is : List Instance) → AreRowsOf s is rows.entry
         → AreUniqueOf s is weak.lists → IfOk result (λ t. AreTablesUnder s is
         (is_pinned weak.pins) (table_of t.0) (table_of (last_of t.0 t.1))) }
@@ -106,6 +106,6 @@ pub(crate) fn standard_tables(
         → AreUniqueOf s is weak.lists → IfOk result (λ t. AreTablesUnder s is
         (is_pinned weak.pins) (table_of t.0) (table_of (last_of t.0 t.1))) }
 {
-    let signatures = signatures_of(alloc, keys, &rows)?;
+    let signatures = signatures_of(alloc, keys, &rows, weak.pins.names())?;
     tables_by(alloc, keys, rows, weak, signatures)
 }

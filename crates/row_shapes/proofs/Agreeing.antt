@@ -1,6 +1,6 @@
 -- Values agree under a relation exactly where their shapes are one and their references agree place by place.
-use Rattle.std.proofs.Common.{◌≡◌, ◌<◌, ℕ, Bool, true, false, List, length, Some, sym, ◌∙◌, ap, subst, arith}
-use Rattle.std.specs.Prelude.{◌↔◌, slice_get, slice_index}
+use Rattle.std.proofs.Common.{◌≡◌, ◌<◌, ℕ, Bool, true, false, List, length, Some, refl, sym, ◌∙◌, ap, subst, arith}
+use Rattle.std.specs.Prelude.{◌↔◌, ◌||◌, slice_get, slice_index}
 use Rattle.std.specs.List.{All, AllZip}
 use Rattle.std.proofs.lemmas.Option.{slice_get_within, get_or_from_slice_get}
 use Rattle.class_rounds.specs.declared.edges.Edge.{Edge}
@@ -8,11 +8,11 @@ use Rattle.class_rounds.specs.Edges.{AgreeAt, HasEdge, ReferAlike}
 use Rattle.step_values.specs.Shapes.{outside_each, HaveOneShape}
 use Rattle.step_values.specs.Values.{AgreeEach}
 use Rattle.step_values.proofs.ByShapes.{agreement_is_by_shapes, same_counts}
-use Rattle.step_equal.specs.Keeping.{under, AgreeUnder}
+use Rattle.step_equal.specs.Keeping.{under, AgreeUnder, AreAlike}
 use Rattle.step_equal.specs.Rows.{Row, IsName, IsPopulation, names, row_at}
 use Rattle.step_equal.proofs.Lookup.{same_row}
-use Rattle.row_shapes.specs.Signatures.{AreReferences, AreShapes}
-use Rattle.row_shapes.proofs.Naming.{once, row_stands, IsPlaced, placed, stands}
+use Rattle.row_shapes.specs.Signatures.{AreReferences, AreShapes, none_pinned}
+use Rattle.row_shapes.proofs.Naming.{once, one_place, row_stands, IsPlaced, placed, stands}
 use Rattle.row_shapes.proofs.Referring.{names_named}
 use Rattle.row_shapes.proofs.Zipping.{zip_there, zip_back, zip_from}
 
@@ -127,27 +127,57 @@ module _ (P : List Row) (pinned : ℕ → Bool) (R : ℕ → ℕ → Bool) (popu
           (shape, by_places (same_counts (λ _ _. true) p.row.values q.row.values shape) h);
     }
 
-  -- .. so by the numbers of shapes
-  pub agree_by_places : (shapes : List ℕ) → AreShapes P shapes → (x z : ℕ) → x < length P → z < length P
+  -- .. so by the numbers of shapes, where rows of one shape have one
+  by_numbers : (known : ℕ → Bool) (shapes : List ℕ) → AreShapes P known shapes → (x z : ℕ) (p : IsPlaced P x)
+      (q : IsPlaced P z) → (HaveOneShape p.row.values q.row.values → slice_index shapes x ≡ slice_index shapes z)
       → AgreeUnder P pinned R (at x) (at z)
       ↔ ((slice_index shapes x ≡ slice_index shapes z) × AgreeAt edges Related x z)
-  agree_by_places shapes shaped x z l m =
+  by_numbers known shapes shaped x z p q told = (
+    λ a. (let parts = agree_to x z p q a in (told parts.0, parts.1)),
+    λ h. agree_from x z p q (shaped.alike x z p.row q.row p.row_is q.row_is h.0) h.1,
+  )
+
+  -- as all have where nothing is pinned
+  pub agree_by_all : (shapes : List ℕ) → AreShapes P none_pinned shapes → (x z : ℕ) → x < length P → z < length P
+      → AgreeUnder P pinned R (at x) (at z)
+      ↔ ((slice_index shapes x ≡ slice_index shapes z) × AgreeAt edges Related x z)
+  agree_by_all shapes shaped x z l m =
       let p = placed P x l in
       let q = placed P z m in
-      let tell = shaped.tell x z p.row q.row p.row_is q.row_is in (
-        λ a. (let parts = agree_to x z p q a in (tell.1 parts.0, parts.1)),
-        λ h. agree_from x z p q (tell.0 h.0) h.1,
-      )
+      by_numbers none_pinned shapes shaped x z p q (shaped.tell x z p.row q.row p.row_is q.row_is refl refl)
+
+  -- .. and else those that are alike: a pinned one is alike itself alone
+  pub agree_by_places : (shapes : List ℕ) → AreShapes P pinned shapes → (x z : ℕ) → x < length P → z < length P
+      → AreAlike P pinned (at x) (at z) → AgreeUnder P pinned R (at x) (at z)
+      ↔ ((slice_index shapes x ≡ slice_index shapes z) × AgreeAt edges Related x z)
+  agree_by_places shapes shaped x z l m alike =
+      let p = placed P x l in
+      let q = placed P z m in
+      by_numbers pinned shapes shaped x z p q (told p q (pinned (at x)) (pinned (at z)) refl refl)
+    where
+      same : (pinned (at x) || pinned (at z)) ≡ true → slice_index shapes x ≡ slice_index shapes z
+      same e =
+          let p = placed P x l in
+          let q = placed P z m in
+          ap (slice_index shapes) (one_place P x z p.row q.row population.distinct p.row_is q.row_is
+          (sym p.named ∙ alike.same_if_pinned e ∙ q.named))
+
+      told : (p : IsPlaced P x) (q : IsPlaced P z) (b c : Bool) → pinned (at x) ≡ b → pinned (at z) ≡ c
+          → HaveOneShape p.row.values q.row.values → slice_index shapes x ≡ slice_index shapes z
+      told p q false false e f h =
+          shaped.tell x z p.row q.row p.row_is q.row_is (ap pinned (sym p.named) ∙ e) (ap pinned (sym q.named) ∙ f) h
+      told p q true c e f h = same (ap (λ b. b || pinned (at z)) e)
+      told p q false true e f h = same (λ i. e i || f i)
 
 -- rows of one shape refer at the same positions
-pub refer_alike : (P : List Row) → IsPopulation P → (edges : List Edge) → AreReferences P edges → (shapes : List ℕ)
-    → AreShapes P shapes → ReferAlike edges shapes
-refer_alike P population edges are shapes shaped x z i t l m same e =
+pub refer_alike : (P : List Row) → IsPopulation P → (edges : List Edge) → AreReferences P edges → (known : ℕ → Bool)
+    (shapes : List ℕ) → AreShapes P known shapes → ReferAlike edges shapes
+refer_alike P population edges are known shapes shaped x z i t l m same e =
     let each = shaped.each in
     let p = placed P x (omega arith) in
     let q = placed P z (omega arith) in
     let any : ℕ → ℕ → Bool = λ _ _. true in
-    let shape = (shaped.tell x z p.row q.row p.row_is q.row_is).0 same in
+    let shape = shaped.alike x z p.row q.row p.row_is q.row_is same in
     let all = ((agreement_is_by_shapes any p.row.values q.row.values).0 shape).1 in
     let there = (at_places P (λ _. false) any population edges are x z p q all).there i t e in
     (there.0, there.1)

@@ -11,3 +11,4 @@ mod Indexing
 pub mod Naming
 pub mod Zipping
 pub mod Agreeing
+pub mod MorePins

@@ -3,7 +3,7 @@ use Rattle.std.proofs.Common.{◌≡◌, ◌≢◌, ◌<◌, ◌+◌, ℕ, zero,
 use Rattle.std.specs.Prelude.{◌==◌, ◌||◌, ◌↔◌, slice_index}
 use Rattle.std.specs.List.{IsDistinct}
 use Rattle.std.proofs.lemmas.Bool.{false≢true}
-use Rattle.std.proofs.lemmas.Option.{get_or_from_slice_get}
+use Rattle.std.proofs.lemmas.Option.{get_or_from_slice_get, slice_get-get_or, slice_get_within}
 use Rattle.step_equal.specs.ComputedKinds.{kind_test}
 use Rattle.step_equal.specs.Keeping.{AreAlike}
 use Rattle.step_equal.specs.Rows.{Row, Kind, kind_of, names, row_at}
@@ -11,6 +11,7 @@ use Rattle.step_equal.proofs.Lookup.{same_row}
 use Rattle.step_equal.proofs.OneKind.{kinds_decide}
 use Rattle.step_equal.proofs.Placing.{stands_at, name_at}
 use Rattle.row_shapes.proofs.Naming.{item_at, once, one_place, row_stands}
+use Rattle.row_shapes.specs.Numbers.{ArePlaces}
 use Rattle.row_shapes.specs.ComputedKinds.{IsNumber, AreNumbers, earlier, first_in}
 
 pub before : {A : Type 0} (xs : List A) (x : A) (i : ℕ) → i < length xs → slice_get (xs ++ x ∷ []) i ≡ slice_get xs i
@@ -213,6 +214,40 @@ numbers_tell pinned rows distinct ns first all i j lt less =
           (subst (AreAlike rows pinned p.0.name) n
           (subst (λ k. AreAlike rows pinned k (slice_index (names rows) j)) m h)) ∙ sym y,
     )
+
+-- each number is the place of a row that has it
+pub numbers_are_places : (pinned : ℕ → Bool) (rows : List Row) (ns : List ℕ) (first : Kind → Option ℕ)
+    → AreNumbers pinned rows ns first (length rows) → ArePlaces ns
+numbers_are_places pinned rows ns first all i within = by (pinned p.0.name) refl
+  where
+    each : length ns ≡ length rows
+    each = all.each
+
+    lt : i < length rows
+    lt = omega (arith, within, each)
+
+    p : (r : Row) × (slice_get rows i ≡ Some r)
+    p = stands_at rows i lt
+
+    there : slice_get ns i ≡ Some (slice_index ns i)
+    there = slice_get-get_or ns i 0 within
+
+    Places : ℕ → Type 0
+    Places k = (k < length ns) × (slice_index ns k ≡ slice_index ns i)
+
+    -- the first row of the kind has this number too
+    free : pinned p.0.name ≡ false → Places (slice_index ns i)
+    free e =
+        let number : first (kind_of p.0) ≡ Some (slice_index ns i) = sym (all.of_free i p.0 lt p.1 e) ∙ there in
+        let t = all.told (kind_of p.0) (slice_index ns i) number in
+        let less = slice_get_within rows (slice_index ns i) t.0 t.1 in
+        let again : slice_get ns (slice_index ns i) ≡ Some (slice_index ns i) =
+        all.of_free (slice_index ns i) t.0 less t.1 t.2 ∙ ap first t.3 ∙ number in
+        (omega (arith, less, each), get_or_from_slice_get ns (slice_index ns i) (slice_index ns i) 0 again)
+
+    by : (b : Bool) → pinned p.0.name ≡ b → Places (slice_index ns i)
+    by true e = subst Places (sym (once (slice_index ns i) i (sym there ∙ all.of_pinned i p.0 lt p.1 e))) (within, refl)
+    by false e = free e
 
 -- nothing is numbered at first
 pub none_numbered : (pinned : ℕ → Bool) (rows : List Row) → AreNumbers pinned rows [] (first_in []) 0

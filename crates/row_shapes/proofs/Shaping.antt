@@ -1,89 +1,151 @@
--- Numbers tell shapes apart.
-use Rattle.std.proofs.Common.{◌≡◌, ◌<◌, ◌+◌, ℕ, List, [], ◌∷◌, ◌++◌, length, take, Some, sym, ap, ◌∙◌, subst, arith, slice_get, inl, inr}
-use Rattle.std.specs.Prelude.{◌↔◌, cond, slice_index, unwrap_or}
-use Rattle.std.specs.Map.{lookup}
+-- Numbers tell the shapes of free rows apart.
+use Rattle.std.proofs.Common.{◌≡◌, ◌<◌, ◌+◌, ℕ, Bool, true, false, List, [], ◌∷◌, ◌++◌, length, take, Some, refl, sym, ap, ◌∙◌, subst, arith, slice_get, inl, inr}
+use Rattle.std.specs.Prelude.{slice_index}
 use Rattle.std.specs.declared.hash.FoldHasher.{FoldHasher}
-use Rattle.std.proofs.lemmas.List.{length-map, length-take-le, map_more}
+use Rattle.std.proofs.lemmas.Bool.{false≢true}
+use Rattle.std.proofs.lemmas.List.{length-take-le, take_all, take_more}
 use Rattle.std.proofs.lemmas.Option.{get_or_from_slice_get, slice_get_within}
 use Rattle.step_values.specs.Shapes.{HaveOneShape}
+use Rattle.step_values.specs.Values.{Values}
 use Rattle.step_equal.specs.Rows.{Row}
 use Rattle.row_shapes.specs.declared.shapes.Shape.{Shape}
-use Rattle.row_shapes.specs.ComputedShapes.{AreFirsts, AreShapeNumbers, IsShapeOf, first_place, same_shape, values_before}
-use Rattle.row_shapes.proofs.FirstPlaces.{first_stays, first_tells, one_more_first, own_first, same_first}
+use Rattle.row_shapes.specs.ComputedFlat.{shape_test}
+use Rattle.row_shapes.specs.ComputedShapes.{AreFirsts, AreShapeNumbers, IsShapeNumber, first_place}
+use Rattle.row_shapes.specs.ShapeLaws.{one_shape_between, own_shape, test_decides}
+use Rattle.row_shapes.specs.Signatures.{AreShapes}
+use Rattle.row_shapes.proofs.FirstPlaces.{first_held, first_stays, first_within, one_more_first, own_first, pinned_passed, same_first}
 use Rattle.row_shapes.proofs.Naming.{item_at, once}
 use Rattle.row_shapes.proofs.Numbering.{before, behind, last_or_before}
 use Rattle.row_shapes.proofs.Referring.{longer}
 
-count_before : (n : ℕ) (rows : List Row) → n < length rows → length (values_before n rows) ≡ n
-count_before n rows lt =
-    length-map (take n rows) (λ r. r.values) ∙ length-take-le n rows (omega (arith, lt))
-
 -- one row more
-module _ (start : FoldHasher) (rows : List Row) (ns : List ℕ) (es next : List (Shape × ℕ)) (n m : ℕ) (r : Row)
-    (at : slice_get rows n ≡ Some r) (all : AreShapeNumbers start rows ns es n) (shape : Shape)
-    (is : IsShapeOf start r.values shape) (first : m ≡ unwrap_or (lookup (same_shape shape) es) n)
-    (noted : (s : Shape) → lookup (same_shape s) next
-    ≡ cond (same_shape shape s) (Some m) (lookup (same_shape s) es)) where
+module _ (start : FoldHasher) (pinned : ℕ → Bool) (rows : List Row) (ns : List ℕ) (es next : List (Shape × ℕ)) (n m : ℕ)
+    (r : Row) (at : slice_get rows n ≡ Some r) (all : AreShapeNumbers start pinned rows ns es n)
+    (one : IsShapeNumber start (pinned r.name) r n m es next) where
   within : n < length rows
   within = slice_get_within rows n r at
 
-  more_before : values_before (n + 1) rows ≡ values_before n rows ++ r.values ∷ []
+  count : length (take n rows) ≡ n
+  count = length-take-le n rows (omega (arith, within))
+
+  more_before : take (n + 1) rows ≡ take n rows ++ r ∷ []
   more_before =
-      map_more (λ (q : Row). q.values) rows n r within
-      ∙ ap (λ (q : Row). values_before n rows ++ q.values ∷ []) (get_or_from_slice_get rows n r r at)
+      take_more rows n r within ∙ ap (λ (q : Row). take n rows ++ q ∷ []) (get_or_from_slice_get rows n r r at)
 
-  own : Some m ≡ first_place (values_before n rows ++ r.values ∷ []) r.values
-  own =
-      sym (own_first start (values_before n rows) r.values shape is n m (count_before n rows within) es next all.firsts
-      first noted)
+  -- it is the new row
+  this : (i : ℕ) (s : Row) → i ≡ n → slice_get rows i ≡ Some s → s ≡ r
+  this i s e h = once s r (sym h ∙ ap (slice_get rows) e ∙ at)
 
-  firsts_then : AreFirsts start (values_before n rows ++ r.values ∷ []) next
-  firsts_then =
-      one_more_first start (values_before n rows) r.values shape is n m (count_before n rows within) es next all.firsts
-      first noted
+  firsts_then : (b : Bool) → pinned r.name ≡ b → AreFirsts start pinned (take n rows ++ r ∷ []) next
+  firsts_then true own =
+      subst (AreFirsts start pinned (take n rows ++ r ∷ [])) (sym (one.of_pinned own).1)
+      (pinned_passed start pinned (take n rows) r own es all.firsts)
+  firsts_then false free =
+      one_more_first start pinned (take n rows) r free n m count es next all.firsts (one.of_free free)
 
-  pub one_more_shape : AreShapeNumbers start rows (ns ++ m ∷ []) next (n + 1)
+  own_then : pinned r.name ≡ false → Some m ≡ first_place pinned (take (n + 1) rows) r.values
+  own_then free =
+      sym (own_first start pinned (take n rows) r free n m count es next all.firsts (one.of_free free))
+      ∙ ap (λ rs. first_place pinned rs r.values) (sym more_before)
+
+  stays : (i : ℕ) (s : Row) → i < n → slice_get rows i ≡ Some s → pinned s.name ≡ false
+      → slice_get (ns ++ m ∷ []) i ≡ first_place pinned (take (n + 1) rows) s.values
+  stays i s l h free =
+      let each = all.each in
+      let item = item_at ns i (omega (arith, l, each)) in
+      before ns m i (omega (arith, l, each)) ∙ item.1
+      ∙ sym (first_stays pinned (take n rows) s.values r item.0 (sym (all.of_free i s l h free) ∙ item.1))
+      ∙ ap (λ rs. first_place pinned rs s.values) (sym more_before)
+
+  pub one_more_shape : AreShapeNumbers start pinned rows (ns ++ m ∷ []) next (n + 1)
   one_more_shape = record {
     each = longer ns m ∙ ap (λ k. k + 1) all.each;
-    firsts = subst (λ vs. AreFirsts start vs next) (sym more_before) firsts_then;
-    numbered = λ i s lt h. among i s (elim (last_or_before i n lt) [
+    firsts = subst (λ rs. AreFirsts start pinned rs next) (sym more_before) (firsts_then (pinned r.name) refl);
+    of_pinned = λ i s lt h p. elim (last_or_before i n lt) [
       | inl e ↦
-          behind ns m i (e ∙ sym all.each) ∙ own
-          ∙ ap (λ (q : Row). first_place (values_before n rows ++ r.values ∷ []) q.values)
-          (once r s (sym at ∙ ap (slice_get rows) (sym e) ∙ h))
-      | inr l ↦ stays i s l h
-    ]);
+          behind ns m i (e ∙ sym all.each)
+          ∙ ap Some ((one.of_pinned (ap (λ (q : Row). pinned q.name) (sym (this i s e h)) ∙ p)).0 ∙ sym e)
+      | inr l ↦ (let each = all.each in before ns m i (omega (arith, l, each)) ∙ all.of_pinned i s l h p)
+    ];
+    of_free = λ i s lt h p. elim (last_or_before i n lt) [
+      | inl e ↦
+          behind ns m i (e ∙ sym all.each)
+          ∙ own_then (ap (λ (q : Row). pinned q.name) (sym (this i s e h)) ∙ p)
+          ∙ ap (λ (q : Row). first_place pinned (take (n + 1) rows) q.values) (sym (this i s e h))
+      | inr l ↦ stays i s l h p
+    ];
+  }
+
+-- nothing is numbered at first
+pub none_shaped : (start : FoldHasher) (pinned : ℕ → Bool) (rows : List Row) → AreShapeNumbers start pinned rows [] [] 0
+none_shaped start pinned rows = record {
+  each = refl;
+  firsts = λ vs s shape. refl;
+  of_pinned = λ i r l at p. absurd (omega (arith, l));
+  of_free = λ i r l at p. absurd (omega (arith, l));
+}
+
+-- So they tell shapes apart.
+module _ (start : FoldHasher) (pinned : ℕ → Bool) (rows : List Row) (ns : List ℕ) (es : List (Shape × ℕ))
+    (all : AreShapeNumbers start pinned rows ns es (length rows)) where
+  abbrev those : List Row
+  those = take (length rows) rows
+
+  numbered : (i : ℕ) (r : Row) → slice_get rows i ≡ Some r → slice_get ns i ≡ Some (slice_index ns i)
+  numbered i r at =
+      let lt = slice_get_within rows i r at in
+      let each = all.each in
+      let a = item_at ns i (omega (arith, lt, each)) in
+      a.1 ∙ ap Some (sym (get_or_from_slice_get ns i a.0 0 a.1))
+
+  own_number : (i : ℕ) (r : Row) → slice_get rows i ≡ Some r → pinned r.name ≡ true → slice_index ns i ≡ i
+  own_number i r at own =
+      once _ _ (sym (numbered i r at) ∙ all.of_pinned i r (slice_get_within rows i r at) at own)
+
+  shape_number : (i : ℕ) (r : Row) → slice_get rows i ≡ Some r → pinned r.name ≡ false
+      → first_place pinned those r.values ≡ Some (slice_index ns i)
+  shape_number i r at free =
+      sym (all.of_free i r (slice_get_within rows i r at) at free) ∙ numbered i r at
+
+  among : (r : Row) {m : ℕ} → first_place pinned those r.values ≡ Some m → first_place pinned rows r.values ≡ Some m
+  among r {m} = subst (λ rs. first_place pinned rs r.values ≡ Some m) (take_all (length rows) rows (omega arith))
+
+  -- the number of a free row is the place of a free row of its shape
+  held : (i j : ℕ) (r s : Row) → slice_get rows i ≡ Some r → pinned r.name ≡ false → slice_get rows j ≡ Some s
+      → slice_index ns i ≡ j → (pinned s.name ≡ false) × (shape_test r.values s.values ≡ true)
+  held i j r s at free there e =
+      first_held pinned rows r.values j s (among r (shape_number i r at free) ∙ ap Some e) there
+
+  -- .. and no place of a pinned one
+  clash : (i j : ℕ) (r s : Row) → slice_get rows i ≡ Some r → slice_get rows j ≡ Some s → pinned r.name ≡ false
+      → pinned s.name ≡ true → slice_index ns i ≡ slice_index ns j → ⊥
+  clash i j r s at there free own e =
+      false≢true (sym (held i j r s at free there (e ∙ own_number j s there own)).0 ∙ own)
+
+  same_held : (i j : ℕ) (r s : Row) → slice_get rows i ≡ Some r → slice_get rows j ≡ Some s → pinned r.name ≡ false
+      → pinned s.name ≡ false → slice_index ns i ≡ slice_index ns j → HaveOneShape r.values s.values
+  same_held i j r s at there free other e =
+      let lt = first_within pinned rows r.values (slice_index ns i) r (among r (shape_number i r at free)) in
+      let q = item_at rows (slice_index ns i) lt in
+      one_shape_between r.values s.values q.0.values (held i (slice_index ns i) r q.0 at free q.1 refl).1
+      (held j (slice_index ns i) s q.0 there other q.1 (sym e)).1
+
+  pub shapes_told : AreShapes rows pinned ns
+  shapes_told = record {
+    each = all.each;
+    alike = λ i j r s at there e. by i j r s at there e (pinned r.name) (pinned s.name) refl refl;
+    tell = λ i j r s at there free other h.
+        once _ _ (sym (shape_number i r at free) ∙ same_first pinned those r.values s.values h
+        ∙ shape_number j s there other);
   }
     where
-      among : (i : ℕ) (s : Row)
-          → slice_get (ns ++ m ∷ []) i ≡ first_place (values_before n rows ++ r.values ∷ []) s.values
-          → slice_get (ns ++ m ∷ []) i ≡ first_place (values_before (n + 1) rows) s.values
-      among i s e = e ∙ ap (λ vs. first_place vs s.values) (sym more_before)
-
-      stays : (i : ℕ) (s : Row) → i < n → slice_get rows i ≡ Some s
-          → slice_get (ns ++ m ∷ []) i ≡ first_place (values_before n rows ++ r.values ∷ []) s.values
-      stays i s l h =
-          let each = all.each in
-          let item = item_at ns i (omega (arith, l, each)) in
-          before ns m i (omega (arith, l, each)) ∙ item.1
-          ∙ sym (first_stays (values_before n rows) s.values r.values item.0
-          (sym (all.numbered i s l h) ∙ item.1))
-
--- So two rows have one number exactly where their values have one shape.
-pub shapes_told : (start : FoldHasher) (rows : List Row) (ns : List ℕ) (es : List (Shape × ℕ))
-    → AreShapeNumbers start rows ns es (length rows) → (i j : ℕ) (r s : Row) → slice_get rows i ≡ Some r → slice_get rows j ≡ Some s
-    → (slice_index ns i ≡ slice_index ns j) ↔ HaveOneShape r.values s.values
-shapes_told start rows ns es all i j r s at there =
-    let each = all.each in
-    let lt = slice_get_within rows i r at in
-    let less = slice_get_within rows j s there in
-    let a = item_at ns i (omega (arith, lt, each)) in
-    let b = item_at ns j (omega (arith, less, each)) in
-    let x = get_or_from_slice_get ns i a.0 0 a.1 in
-    let y = get_or_from_slice_get ns j b.0 0 b.1 in
-    let p = sym (all.numbered i r lt at) ∙ a.1 in
-    let q = sym (all.numbered j s less there) ∙ b.1 in
-    let vs = values_before (length rows) rows in (
-      λ e. first_tells vs r.values s.values b.0 (p ∙ ap Some (sym x ∙ e ∙ y)) q,
-      λ h. x ∙ once a.0 b.0 (sym p ∙ same_first vs r.values s.values h ∙ q) ∙ sym y,
-    )
+      by : (i j : ℕ) (r s : Row) → slice_get rows i ≡ Some r → slice_get rows j ≡ Some s
+          → slice_index ns i ≡ slice_index ns j → (b c : Bool) → pinned r.name ≡ b → pinned s.name ≡ c
+          → HaveOneShape r.values s.values
+      by i j r s at there e true true p q =
+          let same : i ≡ j = sym (own_number i r at p) ∙ e ∙ own_number j s there q in
+          let row : r ≡ s = once r s (sym at ∙ ap (slice_get rows) same ∙ there) in
+          subst (λ (x : Row). HaveOneShape r.values x.values) row ((test_decides r.values r.values).0 (own_shape r.values))
+      by i j r s at there e true false p q = absurd (clash j i s r there at q p (sym e))
+      by i j r s at there e false true p q = absurd (clash i j r s at there p q e)
+      by i j r s at there e false false p q = same_held i j r s at there p q e

@@ -1,5 +1,5 @@
 -- What the code computes; no promise stands here. The first row of each shape, by its place.
-use Rattle.std.specs.Prelude.{◌≡◌, ◌<◌, ℕ, Bool, true, false, List, length, map, take, slice_get, Option, Some}
+use Rattle.std.specs.Prelude.{◌≡◌, ◌<◌, ℕ, Bool, true, false, cond, List, length, take, slice_get, unwrap_or, Option, Some}
 use Rattle.std.specs.Hash as fed
 use Rattle.std.specs.List.{position_from}
 use Rattle.std.specs.Map.{lookup}
@@ -32,21 +32,38 @@ IsShapeOf start vs (Forms f) =
 abbrev pub same_shape : Shape → Shape → Bool
 same_shape s t = ghosts.eq s t
 
--- the place of the first of these that have the shape of vs
-abbrev pub first_place : List Values → Values → Option ℕ
-first_place all vs = position_from (shape_test vs) 0 all
+-- a free row whose values have the shape of vs
+abbrev pub is_free_like : (ℕ → Bool) → Values → Row → Bool
+is_free_like pinned vs r = cond (pinned r.name) false (shape_test vs r.values)
 
--- beside each shape stands the place of the first that have it, if any do
-abbrev pub AreFirsts : FoldHasher → List Values → List (Shape × ℕ) → Type 0
-AreFirsts start all es = (vs : Values) (s : Shape) → IsShapeOf start vs s → lookup (same_shape s) es ≡ first_place all vs
+-- the place of the first of these rows that is free and has the shape of vs
+abbrev pub first_place : (ℕ → Bool) → List Row → Values → Option ℕ
+first_place pinned rows vs = position_from (is_free_like pinned vs) 0 rows
 
-abbrev pub values_before : ℕ → List Row → List Values
-values_before n rows = map (λ r. r.values) (take n rows)
+-- beside each shape stands the place of the first of these rows that is free and has it, if one does
+abbrev pub AreFirsts : FoldHasher → (ℕ → Bool) → List Row → List (Shape × ℕ) → Type 0
+AreFirsts start pinned rows es =
+    (vs : Values) (s : Shape) → IsShapeOf start vs s → lookup (same_shape s) es ≡ first_place pinned rows vs
+
+-- the number of a free row is what stands beside its shape, or else its place, which is noted then
+pub record IsFreeNumber (start : FoldHasher) (r : Row) (place number : ℕ) (old new : List (Shape × ℕ)) : Type 0 where
+  pub shape : Shape
+  pub shape_is : IsShapeOf start r.values shape
+  pub number_is : number ≡ unwrap_or (lookup (same_shape shape) old) place
+  pub noted : (s : Shape) → lookup (same_shape s) new ≡ cond (same_shape shape s) (Some number) (lookup (same_shape s) old)
+
+-- .. and that of a pinned one its place
+pub record IsShapeNumber (start : FoldHasher) (is_pinned : Bool) (r : Row) (place number : ℕ) (old new : List (Shape × ℕ))
+    : Type 0 where
+  pub of_pinned : is_pinned ≡ true → (number ≡ place) × (new ≡ old)
+  pub of_free : is_pinned ≡ false → IsFreeNumber start r place number old new
 
 -- the numbers of the first n rows
-pub record AreShapeNumbers (start : FoldHasher) (rows : List Row) (numbers : List ℕ) (es : List (Shape × ℕ)) (n : ℕ)
-    : Type 0 where
+pub record AreShapeNumbers (start : FoldHasher) (pinned : ℕ → Bool) (rows : List Row) (numbers : List ℕ)
+    (es : List (Shape × ℕ)) (n : ℕ) : Type 0 where
   pub each : length numbers ≡ n
-  pub firsts : AreFirsts start (values_before n rows) es
-  pub numbered : (i : ℕ) (r : Row) → i < n → slice_get rows i ≡ Some r
-      → slice_get numbers i ≡ first_place (values_before n rows) r.values
+  pub firsts : AreFirsts start pinned (take n rows) es
+  pub of_pinned : (i : ℕ) (r : Row) → i < n → slice_get rows i ≡ Some r → pinned r.name ≡ true
+      → slice_get numbers i ≡ Some i
+  pub of_free : (i : ℕ) (r : Row) → i < n → slice_get rows i ≡ Some r → pinned r.name ≡ false
+      → slice_get numbers i ≡ first_place pinned (take n rows) r.values

@@ -1,3 +1,4 @@
+pub mod Numbers
 pub mod ComputedKinds
 pub mod ComputedMarks
 pub mod References

@@ -1,5 +1,5 @@
 -- What refinement of rows goes by: their shapes, and their references outside bags.
-use Rattle.std.specs.Prelude.{◌≡◌, ◌↔◌, ℕ, List, Some, length, slice_get, slice_index}
+use Rattle.std.specs.Prelude.{◌≡◌, ◌↔◌, ℕ, Bool, false, List, Some, length, slice_get, slice_index}
 use Rattle.class_rounds.specs.declared.edges.Edge.{Edge}
 use Rattle.class_rounds.specs.Edges.{AreEdges, HasEdge}
 use Rattle.step_values.specs.Shapes.{HaveOneShape}
@@ -12,12 +12,19 @@ pub record AreReferences (rows : List Row) (edges : List Edge) : Type 0 where
   pub are : AreEdges (length rows) edges
   pub refer : (x i t : ℕ) → HasEdge edges x i t ↔ Refers rows x i t
 
--- the numbers tell shapes apart
-pub record AreShapes (rows : List Row) (shapes : List ℕ) : Type 0 where
+-- the numbers tell shapes of free rows apart: what has one number has one shape, and free rows of one shape have one number
+pub record AreShapes (rows : List Row) (pinned : ℕ → Bool) (shapes : List ℕ) : Type 0 where
   pub each : length shapes ≡ length rows
+  pub alike : (i j : ℕ) (r s : Row) → slice_get rows i ≡ Some r → slice_get rows j ≡ Some s
+      → slice_index shapes i ≡ slice_index shapes j → HaveOneShape r.values s.values
   pub tell : (i j : ℕ) (r s : Row) → slice_get rows i ≡ Some r → slice_get rows j ≡ Some s
-      → (slice_index shapes i ≡ slice_index shapes j) ↔ HaveOneShape r.values s.values
+      → pinned r.name ≡ false → pinned s.name ≡ false
+      → HaveOneShape r.values s.values → slice_index shapes i ≡ slice_index shapes j
 
-pub record AreSignatures (rows : List Row) (s : Signatures) : Type 0 where
+pub record AreSignatures (rows : List Row) (pinned : ℕ → Bool) (s : Signatures) : Type 0 where
   pub references : AreReferences rows s.edges
-  pub shaped : AreShapes rows s.shapes.items
+  pub shaped : AreShapes rows pinned s.shapes.items
+
+-- where nothing is pinned
+abbrev pub none_pinned : ℕ → Bool
+none_pinned y = false

@@ -22,6 +22,7 @@ ghost use Rattle.step_equal.specs.ComputedKinds.{kind_test};
 ghost use Rattle.step_equal.specs.Keeping.{AreAlike};
 ghost use Rattle.step_equal.specs.Maps.{is_pinned};
 ghost use Rattle.step_equal.specs.Rows.{Kind, Row, kind_of, names};
+ghost use Rattle.row_shapes.specs.Numbers.{ArePlaces};
 ghost use Rattle.row_shapes.specs.ComputedKinds.{
   AreRecent,
   HaveRows,
@@ -74,6 +75,8 @@ pub fn kinds<'a>(
         → (slice_index v.items i ≡ slice_index v.items j)
         ↔ AreAlike input.now (is_pinned pinned.now) (slice_index (names input.now) i)
         (slice_index (names input.now) j)) }
+    // Each number is the place of a row that has it.
+    ensures places { IfOk result (λ v. ArePlaces v.items) }
 {
     let mut firsts = IndexMap::with_hasher(alloc, keys);
     let mut recent = vec![in alloc; None; REMEMBERED]?;

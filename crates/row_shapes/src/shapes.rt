@@ -2,26 +2,27 @@
 
 ghost use Rattle.std.specs.Prelude.{
   ◌≡◌,
-  ◌↔◌,
-  ℕ,
+  ◌<◌,
   cond,
   length,
   slice_get,
-  slice_index,
   unwrap_or,
   IfOk,
   Some,
 };
 ghost use Rattle.indexmap.specs.IndexMap.{get};
+ghost use Rattle.step_equal.specs.Maps.{is_pinned};
 ghost use Rattle.step_equal.specs.Rows.{Row};
-ghost use Rattle.step_values.specs.Shapes.{HaveOneShape};
 ghost use Rattle.row_shapes.specs.ComputedLabelling.{of_one_class};
-ghost use Rattle.row_shapes.specs.ComputedShapes.{IsShapeOf};
+ghost use Rattle.row_shapes.specs.ComputedShapes.{IsShapeNumber, IsShapeOf};
+ghost use Rattle.row_shapes.specs.Signatures.{AreShapes};
 
 use crate::feeding::{hash_of, hash_of_all, start_of};
 use crate::flat::FlatValues;
+use crate::marks::marks;
 use indexmap::IndexMap;
 use std::alloc::{AllocError, Global};
+use std::collections::BTreeSet;
 use std::hash::{FoldHasher, Hash, Hasher, RandomState};
 use step_equal::plain::Plain;
 use step_values::labels::{Label, Labels};
@@ -78,32 +79,50 @@ pub(crate) enum Shape<'p, 'a> {
 /// author of a text doesn't know, so that nobody can choose shapes that are slow to find, by whatever hasher.
 type FirstPlaces<'p, 'a> = IndexMap<Shape<'p, 'a>, u32>;
 
-/// By place, a number for the shape of each row's values. Two rows have one number exactly where their values have one
-/// shape: they agree, whatever their references outside SETs and BAGs name. Names, types and sections of rows play no
-/// part.
+/// By place, a number for the shape of each free row's values. Two free rows have one number exactly where their values
+/// have one shape: they agree, whatever their references outside SETs and BAGs name. Names, types and sections of rows play
+/// no part. A pinned row has a number that no other row has, and its values aren't looked at.
 ///
-/// It takes time by the size of all values, as long as no bag is large, whose members are sorted. Beside the numbers it
-/// takes memory by the number of shapes, and by the sizes of those with SETs or BAGs. Shapes are hashed by these keys.
-/// `AllocError` comes where memory runs out.
+/// It takes time by the size of all values of free rows, as long as no bag is large, whose members are sorted. Beside the
+/// numbers it takes memory by the number of shapes, and by the sizes of those with SETs or BAGs. Shapes are hashed by these
+/// keys. `AllocError` comes where memory runs out.
 pub fn shapes<'a>(
     alloc: Global,
     keys: RandomState,
     input: &Plain<'a>,
+    pinned: &BTreeSet<u64>,
 ) -> Result<Vec<u32>, AllocError>
-    ensures length { IfOk result (λ v. length v.items ≡ length input.now) }
-    ensures shapes { IfOk result (λ v. (i j : ℕ) (r s : Row) → slice_get input.now i ≡ Some r
-        → slice_get input.now j ≡ Some s → (slice_index v.items i ≡ slice_index v.items j)
-        ↔ HaveOneShape r.values s.values) }
+    ensures { IfOk result (λ v. AreShapes input.now (is_pinned pinned.now) v.items) }
 {
     let start = start_of(keys);
+    let marks = marks(alloc, input, pinned)?;
     let mut firsts: FirstPlaces<'_, 'a> = IndexMap::new(alloc);
     let mut numbers = Vec::with_capacity(alloc, input.len())?;
     for place in 0..input.len() {
-        let shape = shape_of(alloc, start, input.row(place).values)?;
-        let number = first_of(&mut firsts, shape, place as u32)?;
+        let number = number_of(alloc, start, &mut firsts, input, marks[place], place as u32)?;
         numbers.push(number)?;
     }
     Ok(numbers)
+}
+
+/// The number of the row at a place, which is pinned or not.
+fn number_of<'p, 'a>(
+    alloc: Global,
+    start: FoldHasher,
+    firsts: &mut FirstPlaces<'p, 'a>,
+    input: &'p Plain<'a>,
+    is_pinned: bool,
+    place: u32,
+) -> Result<u32, AllocError>
+    requires { place < length input.now }
+    ensures { (r : Row) → slice_get input.now place ≡ Some r → IfOk result (λ number.
+        IsShapeNumber start is_pinned r place number firsts.old.entries firsts.new.entries) }
+{
+    if is_pinned {
+        return Ok(place);
+    }
+    let shape = shape_of(alloc, start, input.row(place as usize).values)?;
+    first_of(firsts, shape, place)
 }
 
 /// The shape of values. It takes no memory where no SET or BAG stands in them.

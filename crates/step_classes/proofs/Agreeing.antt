@@ -38,11 +38,11 @@ module _ (P : List Row) (pinned : ℕ → Bool) (R : ℕ → ℕ → Bool) (own 
     abbrev Under : ℕ → ℕ → Type 0
     Under t u = under pinned R (at t) (at u) ≡ true
 
-    pub agree_by_related : (shapes : List ℕ) → AreShapes P shapes → (x z : ℕ) → x < length P → z < length P
-        → AgreeUnder P pinned R (at x) (at z)
+    pub agree_by_related : (shapes : List ℕ) → AreShapes P pinned shapes → (x z : ℕ) → x < length P → z < length P
+        → AreAlike P pinned (at x) (at z) → AgreeUnder P pinned R (at x) (at z)
         ↔ ((slice_index shapes x ≡ slice_index shapes z) × AgreeAt edges Related x z)
-    agree_by_related shapes shaped x z l m =
-        let agree = agree_by_places P pinned R population edges are shapes shaped x z l m in (
+    agree_by_related shapes shaped x z l m same =
+        let agree = agree_by_places P pinned R population edges are shapes shaped x z l m same in (
           λ a. (let h = agree.0 a in (
             h.0,
             agree_map edges (length P) Under Related x z are.are

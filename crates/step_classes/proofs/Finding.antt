@@ -35,7 +35,7 @@ started_by_kinds rows pinned kinds p each tell is =
 -- numbers of refined places
 pub all_found : (rows : List Row) (pinned : ℕ → Bool) (start p : Layout) (counts firsts : List ℕ)
     (origins : List Origin) (members : List ℕ) (last : ℕ) → IsPopulation rows → IsByKinds rows pinned start
-    → IsByValues rows start p counts → AreCounts p counts → IsNumbering p counts firsts origins members
+    → IsByValues rows pinned start p counts → AreCounts p counts → IsNumbering p counts firsts origins members
     → last + 1 ≡ length counts → IsFound rows pinned last firsts origins members
 all_found rows pinned start p counts firsts origins members last population kinds values counted numbered rounds =
     let laid = values.refined.laid in

@@ -39,7 +39,7 @@ module _ (P : List Row) (pinned : ℕ → Bool) (population : IsPopulation P) wh
   alike_at zero y z h = ((parted_refines P pinned population).first y z).0 h
   alike_at (suc r) y z h = alike_at r y z (parted_from P pinned r y z h).0
 
-  module _ (start p : Layout) (counts : List ℕ) (kinds : IsByKinds P pinned start) (values : IsByValues P start p counts)
+  module _ (start p : Layout) (counts : List ℕ) (kinds : IsByKinds P pinned start) (values : IsByValues P pinned start p counts)
     where
       refines : Refines values.edges values.shapes start E
       refines =
@@ -53,8 +53,9 @@ module _ (P : List Row) (pinned : ℕ → Bool) (population : IsPopulation P) wh
                 values.edges values.references values.shapes values.shaped x z (omega (arith, l, places))
                 (omega (arith, m, places)) in (
                   λ h. (let parts = next_from r (at x) (at z) h in
-                      let more = agree.0 parts.1 in (parts.0, more.0, more.1)),
-                  λ h. (parted_grounded P pinned (r + 1)).next r (at x) (at z) (omega arith) h.0 (agree.1 (h.1, h.2)),
+                      let more = (agree (alike_at r (at x) (at z) parts.0)).0 parts.1 in (parts.0, more.0, more.1)),
+                  λ h. (parted_grounded P pinned (r + 1)).next r (at x) (at z) (omega arith) h.0
+                      ((agree (alike_at r (at x) (at z) h.0)).1 (h.1, h.2)),
                 );
           }
 

@@ -20,18 +20,18 @@ pub record IsByKinds (rows : List Row) (pinned : ℕ → Bool) (p : Layout) : Ty
       ↔ AreAlike rows pinned (slice_index (names rows) x) (slice_index (names rows) z)
 
 -- .. and then by the references and shapes of rows
-pub record IsByValues (rows : List Row) (start p : Layout) (counts : List ℕ) : Type 0 where
+pub record IsByValues (rows : List Row) (pinned : ℕ → Bool) (start p : Layout) (counts : List ℕ) : Type 0 where
   pub edges : List Edge
   pub shapes : List ℕ
   pub references : AreReferences rows edges
-  pub shaped : AreShapes rows shapes
+  pub shaped : AreShapes rows pinned shapes
   pub refined : IsRefined edges shapes start p counts
 
 -- .. from some round 0 on
 pub record IsParted (rows : List Row) (pinned : ℕ → Bool) (p : Layout) (counts : List ℕ) : Type 0 where
   pub start : Layout
   pub kinds : IsByKinds rows pinned start
-  pub values : IsByValues rows start p counts
+  pub values : IsByValues rows pinned start p counts
 
 -- the numbers of places make the standard table
 pub record IsFound (rows : List Row) (pinned : ℕ → Bool) (last : ℕ) (firsts : List ℕ) (origins : List Origin)

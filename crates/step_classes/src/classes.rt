@@ -62,7 +62,7 @@ pub fn refine<'a>(
     ensures short_classes { IfOk result (λ t. length t.classes < 2 ^ 32) }
     ensures short_names { IfOk result (λ t. All (λ m. m.0 < 2 ^ 64) t.members) }
 {
-    let signatures = signatures_of(alloc, keys, input)?;
+    let signatures = signatures_of(alloc, keys, input, pinned)?;
     refine_last(alloc, keys, input, pinned, signatures)
 }
 
@@ -76,7 +76,7 @@ pub fn refine_by<'a>(
     pinned: &BTreeSet<u64>,
     signatures: &Signatures,
 ) -> Result<Classes, AllocError>
-    requires { AreSignatures input.now signatures.now }
+    requires { AreSignatures input.now (is_pinned pinned.now) signatures.now }
     ensures standard { IfOk result (λ t. IsStandard input.now (is_pinned pinned.now) t) }
     ensures rounds { IfOk result (λ t. t.rounds ≤ length input.now) }
     ensures short_rounds { IfOk result (λ t. t.rounds < 2 ^ 32) }
@@ -100,7 +100,7 @@ pub fn refine_last<'a>(
     pinned: &BTreeSet<u64>,
     signatures: Signatures,
 ) -> Result<Classes, AllocError>
-    requires { AreSignatures input.now signatures }
+    requires { AreSignatures input.now (is_pinned pinned.now) signatures }
     ensures standard { IfOk result (λ t. IsStandard input.now (is_pinned pinned.now) t) }
     ensures rounds { IfOk result (λ t. t.rounds ≤ length input.now) }
     ensures short_rounds { IfOk result (λ t. t.rounds < 2 ^ 32) }

@@ -43,7 +43,7 @@ pub(crate) fn find<'a>(
     pinned: &BTreeSet<u64>,
     signatures: &Signatures,
 ) -> Result<Found, AllocError>
-    requires { AreSignatures input.now signatures.now }
+    requires { AreSignatures input.now (is_pinned pinned.now) signatures.now }
     ensures { IfOk result (λ f. IsFound input.now (is_pinned pinned.now) f.last f.numbering.firsts.items
         f.numbering.origins.items f.numbering.members.items) }
 {
@@ -60,7 +60,7 @@ pub(crate) fn find_last<'a>(
     pinned: &BTreeSet<u64>,
     signatures: Signatures,
 ) -> Result<Found, AllocError>
-    requires { AreSignatures input.now signatures }
+    requires { AreSignatures input.now (is_pinned pinned.now) signatures }
     ensures { IfOk result (λ f. IsFound input.now (is_pinned pinned.now) f.last f.numbering.firsts.items
         f.numbering.origins.items f.numbering.members.items) }
 {
@@ -77,7 +77,7 @@ fn part<'a>(
     pinned: &BTreeSet<u64>,
     signatures: &Signatures,
 ) -> Result<Parted, AllocError>
-    requires { AreSignatures input.now signatures.now }
+    requires { AreSignatures input.now (is_pinned pinned.now) signatures.now }
     ensures { IfOk result (λ q. IsParted input.now (is_pinned pinned.now) (layout q.parts)
         q.rounds.counts.items) }
 {
@@ -129,12 +129,12 @@ fn by_values<'a>(
     parts: &mut Parts,
     signatures: &Signatures,
 ) -> Result<Rounds, AllocError>
-    requires signatures { AreSignatures input.now signatures.now }
+    requires signatures { (pinned : ℕ → Bool) × AreSignatures input.now pinned signatures.now }
     requires laid { IsLaid (layout parts.old) }
     requires settled { NoneIsChosen (layout parts.old) }
     requires each { size (layout parts.old) ≡ length input.now }
-    ensures { IfOk result (λ rounds.
-        IsByValues input.now (layout parts.old) (layout parts.new) rounds.counts.items) }
+    ensures { (pinned : ℕ → Bool) → AreSignatures input.now pinned signatures.now → IfOk result (λ rounds.
+        IsByValues input.now pinned (layout parts.old) (layout parts.new) rounds.counts.items) }
 {
     // its contract is about the rows that the signatures are of
     let _rows = input.len();

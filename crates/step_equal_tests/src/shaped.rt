@@ -128,6 +128,14 @@ const CASES: &'static [Case] = &[
         &[0, 0, 2, 2, 4, 5],
         TO_BOTH,
     ),
+    (
+        "no row has the shape of a pinned one",
+        OTHERWISE,
+        &[1, 4],
+        &[0, 1, 1, 3, 4, 4],
+        &[0, 1, 2, 3, 4, 5],
+        TO_BOTH,
+    ),
 ];
 
 /// Whether the kinds of a population have these numbers.
@@ -145,8 +153,14 @@ fn has_kinds(
 }
 
 /// Whether the shapes of a population have these numbers.
-fn has_shapes(alloc: Global, keys: RandomState, input: &Plain<'static>, numbers: &[u32]) -> bool {
-    match shapes(alloc, keys, input) {
+fn has_shapes(
+    alloc: Global,
+    keys: RandomState,
+    input: &Plain<'static>,
+    pinned: &BTreeSet<u64>,
+    numbers: &[u32],
+) -> bool {
+    match shapes(alloc, keys, input, pinned) {
         Ok(found) => found.as_slice() == numbers,
         Err(_) => false,
     }
@@ -164,7 +178,7 @@ fn is_found(alloc: Global, keys: RandomState, case: &Case, input: &Plain<'static
     match names_of(alloc, case.2) {
         Some(pinned) => {
             has_kinds(alloc, keys, input, &pinned, case.3)
-                && has_shapes(alloc, keys, input, case.4)
+                && has_shapes(alloc, keys, input, &pinned, case.4)
                 && has_references(alloc, input, case.5)
         }
         None => false,

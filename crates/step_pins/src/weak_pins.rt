@@ -115,6 +115,9 @@ impl WeakPins {
             → IfOk result (λ t. (y : ℕ) → IsTrue (is_pinned t.pins y)
             ↔ (IsTrue (is_pinned self.pins y) ⊎ OneOf (StandsBesideItsClass s d en
             (shares (table_of table.now) table.now.rounds) y) is)) }
+        // Nothing is unpinned.
+        ensures grows { IfOk result (λ t. (y : ℕ) → IsTrue (is_pinned self.pins y)
+            → IsTrue (is_pinned t.pins y)) }
         ensures weak { IfOk result (λ t. IsTrue t.are_weak
             ↔ ((y : ℕ) → is_pinned t.pins y ≡ is_pinned self.pins y)) }
     {

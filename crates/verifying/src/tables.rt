@@ -9,7 +9,7 @@ ghost use Rattle.step_structures.specs.Trees.{File};
 ghost use Rattle.step_equal.specs.Standard.{IsWellFormed};
 ghost use Rattle.step_equal.specs.Tables.{IsValid};
 ghost use Rattle.step_equal.specs.TableViews.{table_of};
-ghost use Rattle.row_shapes.specs.Signatures.{AreSignatures};
+ghost use Rattle.row_shapes.specs.Signatures.{AreSignatures, none_pinned};
 ghost use Rattle.step_pins.specs.Pinned.{is_pinned};
 ghost use Rattle.verifying.specs.ComputedPassing.{
   AreFaulty,
@@ -23,7 +23,7 @@ ghost use Rattle.verifying.specs.ComputedPassing.{
 use crate::fault::TablesFault;
 use certificate_text::read::read_certificate;
 use judged_grounds::judge::judge_by;
-use row_shapes::signatures::{Signatures, signatures_of};
+use row_shapes::signatures::{Signatures, all_signatures};
 use std::alloc::Global;
 use std::hash::RandomState;
 use step_equal::laws::equal_tables_are_the_same;
@@ -49,7 +49,7 @@ fn judge_under(
     table: &Table,
 ) -> Result<(), TablesFault>
     requires well_formed { IsWellFormed (table_of table.now) }
-    requires signatures { AreSignatures rows.now signatures.now }
+    requires signatures { AreSignatures rows.now none_pinned signatures.now }
     ensures { MatchResult result
         (λ _. IsValid rows.now (is_pinned pins.now) (table_of table.now))
         (IsTableFault rows.now (is_pinned pins.now) (table_of table.now)) }
@@ -86,7 +86,7 @@ fn judge_tables(
         (AreFaulty rows.now (is_pinned weak.now) (is_pinned gentle.now) (table_of first)
         (table_of second.now)) }
 {
-    let signatures = signatures_of(alloc, keys, rows)?;
+    let signatures = all_signatures(alloc, keys, rows)?;
     if is_judged(weak, gentle, &first, second) {
         drop(first);
         return judge_under(alloc, keys, rows, weak, &signatures, second);
@@ -133,7 +133,7 @@ pub(crate) fn judge_certificate<'a>(
         → AreKnown s chosen f rows.entry weak → IsJudgement s chosen f certificate.items result }
     ensures ready { IfOk result IsReady }
 {
-    let (first, second) = read_certificate(alloc, &certificate)?;
+    let (first, second) = read_certificate(alloc, &certificate, rows.len())?;
     drop(certificate);
     judge_pair(alloc, keys, rows, &weak, first, second)
 }

@@ -8,7 +8,7 @@ use Rattle.step_equal.specs.Maps.{is_pinned}
 use Rattle.step_equal.specs.TableViews.{origin_of, table_of}
 use Rattle.merged_outputs.proofs.FirstMembers.{map_members}
 use Rattle.judged_tables.proofs.Finding.{through_ok}
-use Rattle.row_shapes.specs.Signatures.{AreShapes}
+use Rattle.row_shapes.specs.Signatures.{AreShapes, none_pinned}
 use Rattle.judged_grounds.specs.ComputedSplits.{AreBirthsOf, AreOwn}
 use Rattle.judged_grounds.proofs.Sharing.{as_many}
 use Rattle.judged_grounds.proofs.SplitOff.{are_births}
@@ -62,4 +62,4 @@ returns c =
     c.deref-3.result.now last_is c.deref-4.result.now
     (subst (λ ns. AreOwn P pinned ns (length P)) (sym c.deref-4.ensures.value) c.in_ok-own.ensures)
     c.args.signatures.now.edges c.requires.signatures.references c.deref-5.result.now
-    (subst (AreShapes P) (sym c.deref-5.ensures.value) c.requires.signatures.shaped))
+    (subst (AreShapes P none_pinned) (sym c.deref-5.ensures.value) c.requires.signatures.shaped))

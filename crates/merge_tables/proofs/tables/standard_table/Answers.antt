@@ -1,8 +1,13 @@
 use Rattle.std.proofs.Common.{sym, subst}
 use Rattle.step_equal.specs.Maps as maps
 use Rattle.step_equal.specs.Standard.{IsStandard}
+use Rattle.row_shapes.specs.Signatures.{AreSignatures}
 use Rattle.step_pins.specs.Pinned.{is_pinned}
 use Rattle.merge_tables.proofs.tables.standard_table.Goals as goal
+
+pub refine_by-requires : goal.refine_by-requires
+refine_by-requires c =
+    subst (λ names. AreSignatures c.args.rows.now (maps.is_pinned names) c.args.signatures.now) (sym c.names.ensures) c.requires
 
 pub returns : goal.returns
 returns c =

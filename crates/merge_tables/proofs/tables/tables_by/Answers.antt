@@ -2,8 +2,15 @@ use Rattle.std.proofs.Common.{sym, subst}
 use Rattle.step_equal.specs.Standard.{IsStandard}
 use Rattle.step_equal.specs.TableViews.{table_of}
 use Rattle.step_pins.specs.Pinned.{is_pinned}
+use Rattle.row_shapes.proofs.MorePins.{signatures_under_more}
 use Rattle.merge_tables.proofs.Last.{standard-last}
 use Rattle.merge_tables.proofs.tables.tables_by.Goals as goal
+
+pub second_table-requires : goal.second_table-requires
+second_table-requires c = record {
+  signatures = signatures_under_more c.args.rows (is_pinned c.args.weak.pins) (is_pinned c.in_ok-gentle.gentle.pins)
+      c.args.signatures c.in_ok-gentle.ensures.grows c.requires.signatures;
+}
 
 pub returns : goal.returns
 returns c s is are unique = record {

@@ -3,7 +3,7 @@ use Rattle.std.proofs.lemmas.Option.{get_or_from_slice_get}
 use Rattle.step_equal.specs.Maps.{is_pinned}
 use Rattle.step_equal.proofs.Placing.{stands_at}
 use Rattle.row_shapes.specs.ComputedKinds.{AreNumbers, AreRecent, first_in}
-use Rattle.row_shapes.proofs.Numbering.{none_numbered, one_more, numbers_tell}
+use Rattle.row_shapes.proofs.Numbering.{none_numbered, numbers_are_places, numbers_tell, one_more}
 use Rattle.row_shapes.proofs.Recent.{none_recent}
 use Rattle.row_shapes.proofs.kinds.kinds.Goals as goal
 
@@ -41,3 +41,13 @@ returns-clause-kinds c =
     omega (arith, c.loop-place-test.false, c.loop-place.auto.place-end, c.len-place-end.ensures.length) in
     numbers_tell pinned rows c.len.ensures.population.distinct ns first
     (subst (AreNumbers pinned rows ns first) whole c.loop-place.invariant.0)
+
+pub returns-clause-places : goal.returns-clause-places
+returns-clause-places c =
+    let pinned = is_pinned c.args.pinned.now in
+    let rows = c.args.input.now in
+    let first = first_in c.loop-place.firsts.entries in
+    let ns = c.loop-place.numbers.items in
+    let whole : c.loop-place.place ≡ length rows =
+    omega (arith, c.loop-place-test.false, c.loop-place.auto.place-end, c.len-place-end.ensures.length) in
+    numbers_are_places pinned rows ns first (subst (AreNumbers pinned rows ns first) whole c.loop-place.invariant.0)

@@ -3,6 +3,9 @@ use Rattle.step_equal.specs.Maps.{is_pinned}
 use Rattle.step_pins.proofs.SameNames.{as-many-where-same, same-where-as-many}
 use Rattle.step_pins.proofs.weak_pins.WeakPins.into_gentle.Goals as goal
 
+pub returns-clause-grows : goal.returns-clause-grows
+returns-clause-grows c y t = (c.in_ok-pin_by_table.ensures y).1 (inl t)
+
 pub returns-clause-weak : goal.returns-clause-weak
 returns-clause-weak c =
     let old = c.args.self.pins.names in
