@@ -4,15 +4,15 @@
     bench/shrink.py PROGRAM [--megabytes N]
 
 Makes files of that size (20 if none is given) in a temporary folder, that conform to the schemas of
-bench/check.py, and runs both commands on each, the best of five runs. Prints the time of `shrink` as a multiple
+bench/check.py or of examples/, and runs both commands on each, the best of five runs. Prints the time of `shrink` as a multiple
 of that of `check`, its memory beside the size of the file, and how many instances are kept.
 
 The files: `points` and `parts` as bench/check.py makes them, where all entities are chosen; `points` also by
 the schemas with rules of the population and with domain rules, and twice as large; `parts` also with points, directions
 and placements chosen, as users do; `plates`, the plate of examples/ over and over, by its schema, with the same choice;
-`numbers`, `references`, `referrers` and `words` of bench/check.py, the last two by the schema with rules of the population.
-And nodes that refer to each other, as long a file each: a `cycle`, all nodes of which are one; a `chain` that is parted
-one node a round, from its end; and a `reversed` chain, whose nodes come in the other order.
+`numbers`, `references`, `referrers` and `words` of bench/check.py, the last two by the schema with rules of the
+population. And nodes that refer to each other, as long a file each: a `cycle`, all nodes of which are one; a `chain` that
+is parted one node a round, from its end; and a `reversed` chain, whose nodes come in the other order.
 """
 import argparse
 import os
@@ -110,7 +110,8 @@ def main():
             measure(f"points, {what}", points(size), words.program, paths[what], CHOSEN, folder)
         measure("parts", parts(size // 2), words.program, paths[""], CHOSEN, folder)
         measure("parts, the usual choice", parts(size // 2), words.program, paths[""], USUAL, folder)
-        measure("plates", plates(size // 2), words.program, paths["plates"], USUAL, folder, HEADER.replace("BENCH", "GEO"))
+        header = HEADER.replace("BENCH", "GEO")
+        measure("plates", plates(size // 2), words.program, paths["plates"], USUAL, folder, header)
         for name in ("numbers", "references"):
             measure(name, FILES[name][0](size), words.program, paths[""], CHOSEN, folder)
         for name in ("referrers", "words"):
