@@ -3,8 +3,8 @@
 
     tools/drawn.py PROGRAM [--count N] [--seed N]
 
-Draws N small files (10,000 if no number is given) that conform to a schema with SETs and LISTs OF UNIQUE, and shrinks
-each. Output and certificate have to be those that a few lines here find by comparing all pairs in every round, and
+Draws N small files (10,000 if no number is given) that conform to a schema with SETs, LISTs OF UNIQUE, a uniqueness rule
+and an inverse attribute, and shrinks each. Output and certificate have to be those that a few lines here find by comparing all pairs in every round, and
 `verify` has to accept them. Then a table of the certificate, or the output, is changed at random, and `verify` has to
 say what the definition says of it: that the certificate holds, or the first of what is wrong. Prints how often each
 was said.
@@ -20,10 +20,12 @@ import sys
 import tempfile
 
 SCHEMA = """SCHEMA drawn;
-ENTITY node; size : REAL; one : OPTIONAL node; two : OPTIONAL node; END_ENTITY;
+ENTITY node; size : REAL; one : OPTIONAL node; two : OPTIONAL node; INVERSE marks : SET OF mark FOR at; END_ENTITY;
 ENTITY knot SUBTYPE OF (node); END_ENTITY;
 ENTITY bundle; members : SET OF node; END_ENTITY;
 ENTITY ring; corners : LIST OF UNIQUE node; END_ENTITY;
+ENTITY mark; at : node; END_ENTITY;
+ENTITY label; at : node; UNIQUE only : at; END_ENTITY;
 END_SCHEMA;
 """
 HEADER = """ISO-10303-21;
@@ -53,6 +55,10 @@ def drawn(rng):
     for name in rng.sample(range(40, 50), rng.choice([0, 1, 1, 2])):
         members = rng.sample(names, rng.randint(0, min(4, len(names))))
         rows[name] = Row(rng.choice(["BUNDLE", "RING"]), None, [], members)
+    for name in rng.sample(range(50, 55), rng.choice([0, 0, 0, 1, 2])):
+        rows[name] = Row("MARK", None, [rng.choice(names)], [])
+    for name, it in zip(range(55, 60), rng.sample(names, min(len(names), rng.choice([0, 0, 0, 1, 2])))):
+        rows[name] = Row("LABEL", None, [it], [])
     order = list(rows.items())
     rng.shuffle(order)
     return dict(order)
@@ -63,8 +69,8 @@ def text(rows):
         return "$" if name is None else f"#{name}"
 
     def line(name, row):
-        listed = ["(" + ",".join(map(link, row.members)) + ")"]
-        values = listed if row.size is None else [row.size, *map(link, row.links)]
+        listed = ["(" + ",".join(map(link, row.members)) + ")"] if row.entity in ("BUNDLE", "RING") else []
+        values = [*filter(None, [row.size]), *map(link, row.links), *listed]
         return f"#{name}={row.entity}({','.join(values)});\n"
 
     return HEADER + "".join(line(name, row) for name, row in rows.items()) + FOOTER
@@ -72,6 +78,7 @@ def text(rows):
 
 def weak_pins(rows):
     held = {it for row in rows.values() if row.entity == "BUNDLE" for it in row.members}
+    held |= {it for row in rows.values() if row.entity in ("MARK", "LABEL") for it in row.links}
     return held | {name for name, row in rows.items() if row.size is None}
 
 

@@ -23,8 +23,9 @@ const MEMBER_BYTES: usize = 12;
 /// class begins by the last round, and the class of each member is there. A name may stand twice
 /// among the members.
 ///
-/// Room is asked for at once for so many members of each table, or for as many as the text can have
-/// where these are fewer; there may be others than these, or none.
+/// `members` is how many members each table is expected to have: room for so many is asked for at
+/// once, or for as many as a text of this length has in both tables where these are fewer. There may
+/// be more of them, or fewer, and the answer is the same, but for want of memory.
 ///
 /// `OldVersion` (C6) comes where the first line is `STEPCERT 1` and a line feed ends it, whatever
 /// follows. Else `BadText` (C1) comes where the text is no certificate: its line, counted from 1, is

@@ -2,6 +2,7 @@
 
 use devices::device::{Failed, Sink, Source};
 use file_store::folder::Folder;
+use file_store::same::lead_to_one;
 use files::store::Store;
 use std::alloc::Global;
 use std::rt::Files;
@@ -88,5 +89,38 @@ fn a_file_that_stands_is_replaced_as_a_whole(rt: HostRuntime) -> Result<(), Fail
     fs::remove_file(&rt, STANDING)?;
     assert!(rt; stays);
     assert!(rt; is_replaced);
+    Ok(())
+}
+
+// Where another file stands for a while.
+const TOLD: &str = "a-told-file.stp";
+
+// Paths, and whether both lead to one file, where that one stands, and others don't.
+const PAIRS: [(&str, &str, bool); 7] = [
+    (TOLD, "./a-told-file.stp", true),
+    (TOLD, "no-file.stp", false),
+    ("no-file.stp", ".//no-file.stp", true),
+    ("no-file.stp", "another-file.stp", false),
+    ("./no-file.stp", "././no-file.stp", true),
+    (NOWHERE, "./no such folder/file", false),
+    ("/dev/null", "/dev/./null", false),
+];
+
+// Whether it is told of each pair.
+fn are_told<R: Files>(rt: &R, alloc: Global) -> bool {
+    for (one, other, are_one) in PAIRS {
+        if lead_to_one(alloc, rt, one, other) != are_one {
+            return false;
+        }
+    }
+    true
+}
+
+#[test]
+fn paths_that_lead_to_one_file_are_told(rt: HostRuntime) -> Result<(), Fail> {
+    fs::write(&rt, TOLD, "text")?;
+    let are_told = are_told(&rt, rt.alloc());
+    fs::remove_file(&rt, TOLD)?;
+    assert!(rt; are_told);
     Ok(())
 }

@@ -7,3 +7,4 @@ pub mod making;
 pub mod opening;
 mod paths;
 mod replacement;
+pub mod same;

@@ -42,8 +42,9 @@ pub fn judge<'a>(
     judge_by(alloc, keys, input, pinned, &signatures, table)
 }
 
-/// Judges a table as [`judge`] does, where the signatures of all rows are known: classes of a table that somebody made may
-/// hold pinned instances and others, until a round that parts them, and whether it has a ground their values tell.
+/// Judges a table as [`judge`] does, where the signatures of all rows are known: a class of a table that
+/// somebody made may hold pinned instances and others until a round parts them, and whether that split has
+/// a ground, their values tell.
 ///
 /// Where the members aren't the names of the instances, in order, the fault is `Members`; else where
 /// a start or a split has no ground, `Ground`; else where the last round isn't stable, `Stable`.

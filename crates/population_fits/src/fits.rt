@@ -65,18 +65,22 @@ fn misfit_node(
         (target_of (the_schema bases.now.names.now) targets.now)
         (base_seen (the_schema bases.now.names.now) base.now) (node_value node.entry)) }
 {
-    match node {
-        Node::Unset => Ok(Some(FindingKind::MissingValue)),
-        Node::Star => Ok(Some(FindingKind::MisplacedStar)),
-        Node::Number(number) => Ok(misfit_number(*base, &number)),
-        Node::Text(text) => Ok(misfit_string(*base, &text)),
-        Node::Bits(bits) => Ok(misfit_binary(*base, &bits)),
-        Node::Element(word) => Ok(misfit_element(bases, *base, word)),
-        Node::Reference(name, _) => Ok(misfit_reference(bases, *base, targets.target(name))),
-        Node::Keyword(_) => Ok(Some(other_kind(*base))),
-        Node::Typed(word, inner) => misfit_typed(alloc, bases, targets, base, word, &inner),
-        Node::List(params) => misfit_list(alloc, bases, targets, base, &params),
-    }
+    // what the last two answer is handed on as it is, and copied nowhere
+    let found = match node {
+        Node::Unset => Some(FindingKind::MissingValue),
+        Node::Star => Some(FindingKind::MisplacedStar),
+        Node::Number(number) => misfit_number(*base, &number),
+        Node::Text(text) => misfit_string(*base, &text),
+        Node::Bits(bits) => misfit_binary(*base, &bits),
+        Node::Element(word) => misfit_element(bases, *base, word),
+        Node::Reference(name, _) => misfit_reference(bases, *base, targets.target(name)),
+        Node::Keyword(_) => Some(other_kind(*base)),
+        Node::Typed(word, inner) => {
+            return misfit_typed(alloc, bases, targets, base, word, &inner);
+        }
+        Node::List(params) => return misfit_list(alloc, bases, targets, base, &params),
+    };
+    Ok(found)
 }
 
 /// The finding of a typed parameter, which has this keyword and this parameter inside.

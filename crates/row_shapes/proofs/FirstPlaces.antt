@@ -13,7 +13,7 @@ use Rattle.step_equal.specs.Rows.{Row}
 use Rattle.row_shapes.specs.declared.shapes.Shape.{Shape}
 use Rattle.std.specs.declared.hash.FoldHasher.{FoldHasher}
 use Rattle.row_shapes.specs.ComputedFlat.{shape_test}
-use Rattle.row_shapes.specs.ComputedShapes.{AreFirsts, IsFreeNumber, IsShapeOf, first_place, is_free_like, same_shape}
+use Rattle.row_shapes.specs.ComputedShapes.{AreFirsts, IsFreeNumber, first_place, is_free_like, same_shape}
 use Rattle.row_shapes.specs.ShapeLaws.{own_shape, same_answers, test_back, test_decides}
 use Rattle.row_shapes.proofs.OneShape.{shapes_decide}
 

@@ -6,7 +6,6 @@ use Rattle.std.proofs.lemmas.Bool.{false≢true}
 use Rattle.std.proofs.lemmas.List.{length-take-le, take_all, take_more}
 use Rattle.std.proofs.lemmas.Option.{get_or_from_slice_get, slice_get_within}
 use Rattle.step_values.specs.Shapes.{HaveOneShape}
-use Rattle.step_values.specs.Values.{Values}
 use Rattle.step_equal.specs.Rows.{Row}
 use Rattle.row_shapes.specs.declared.shapes.Shape.{Shape}
 use Rattle.row_shapes.specs.ComputedFlat.{shape_test}

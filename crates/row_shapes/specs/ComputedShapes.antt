@@ -1,4 +1,4 @@
--- What the code computes; no promise stands here. The first row of each shape, by its place.
+-- What the code computes; no promise stands here. The first free row of each shape, by its place.
 use Rattle.std.specs.Prelude.{◌≡◌, ◌<◌, ℕ, Bool, true, false, cond, List, length, take, slice_get, unwrap_or, Option, Some}
 use Rattle.std.specs.Hash as fed
 use Rattle.std.specs.List.{position_from}
@@ -50,11 +50,12 @@ pub record IsFreeNumber (start : FoldHasher) (r : Row) (place number : ℕ) (old
   pub shape : Shape
   pub shape_is : IsShapeOf start r.values shape
   pub number_is : number ≡ unwrap_or (lookup (same_shape shape) old) place
-  pub noted : (s : Shape) → lookup (same_shape s) new ≡ cond (same_shape shape s) (Some number) (lookup (same_shape s) old)
+  pub noted : (s : Shape) → lookup (same_shape s) new
+      ≡ cond (same_shape shape s) (Some number) (lookup (same_shape s) old)
 
 -- .. and that of a pinned one its place
-pub record IsShapeNumber (start : FoldHasher) (is_pinned : Bool) (r : Row) (place number : ℕ) (old new : List (Shape × ℕ))
-    : Type 0 where
+pub record IsShapeNumber (start : FoldHasher) (is_pinned : Bool) (r : Row) (place number : ℕ)
+    (old new : List (Shape × ℕ)) : Type 0 where
   pub of_pinned : is_pinned ≡ true → (number ≡ place) × (new ≡ old)
   pub of_free : is_pinned ≡ false → IsFreeNumber start r place number old new
 

@@ -12,7 +12,7 @@ pub record AreReferences (rows : List Row) (edges : List Edge) : Type 0 where
   pub are : AreEdges (length rows) edges
   pub refer : (x i t : ℕ) → HasEdge edges x i t ↔ Refers rows x i t
 
--- the numbers tell shapes of free rows apart: what has one number has one shape, and free rows of one shape have one number
+-- the numbers tell shapes of free rows apart: rows of one number have one shape, and free ones of one shape one number
 pub record AreShapes (rows : List Row) (pinned : ℕ → Bool) (shapes : List ℕ) : Type 0 where
   pub each : length shapes ≡ length rows
   pub alike : (i j : ℕ) (r s : Row) → slice_get rows i ≡ Some r → slice_get rows j ≡ Some s

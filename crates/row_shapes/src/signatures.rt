@@ -12,19 +12,19 @@ use std::collections::BTreeSet;
 use std::hash::RandomState;
 use step_equal::plain::Plain;
 
-/// What refinement of the rows of a population goes by, beside their kinds, where some of them are pinned: whatever more
-/// is pinned, it is the same.
+/// What refinement of the rows of a population goes by, beside their kinds, where some of them are pinned. It serves
+/// where more of them are pinned too.
 #[derive(Drop)]
 pub struct Signatures {
-    /// By place, a number for the shape of each row's values. Rows that have one number agree, whatever their references
-    /// outside SETs and BAGs name; and free rows that agree so have one number.
+    /// By place, a number for the shape of each row's values. Rows that have one number agree, whatever their
+    /// references outside SETs and BAGs name; and free rows that agree so have one number.
     pub shapes: Vec<u32>,
     /// The references outside SETs and BAGs, found by the place that is referred to.
     pub edges: Edges,
 }
 
-/// The shapes and references of the rows of a population, with these names pinned. The values of pinned rows aren't looked
-/// at for shapes: no row has to be told from them, since their kinds do so.
+/// The shapes and references of the rows of a population, with these names pinned. The values of pinned rows aren't
+/// looked at for shapes: no row has to be told from them, since their kinds do so.
 ///
 /// It takes time by the size of all values, as long as no bag is large, whose members are sorted, and by the number of
 /// references and its logarithm. Shapes are hashed by these keys. `AllocError` comes where memory runs out.
@@ -41,8 +41,8 @@ pub fn signatures_of<'a>(
     Ok(Signatures { shapes, edges })
 }
 
-/// The shapes and references of all rows of a population, whatever is pinned. Shapes are hashed by these keys. `AllocError`
-/// comes where memory runs out.
+/// The shapes and references of all rows of a population, whatever is pinned. Shapes are hashed by these keys.
+/// `AllocError` comes where memory runs out.
 pub fn all_signatures<'a>(
     alloc: Global,
     keys: RandomState,

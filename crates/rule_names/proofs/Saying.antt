@@ -6,7 +6,6 @@ use Rattle.std.proofs.lemmas.List.{take_all}
 use Rattle.std.proofs.lemmas.List.Folds.{list_any_more, list_any_at}
 use Rattle.step_literals.specs.declared.literal.items.Item.{Item}
 use Rattle.express_syntax.specs.Schemas.{Schema, Declaration, type, entity, skipped, TypeDeclaration, named}
-use Rattle.express_syntax.specs.Profile.{Every}
 use Rattle.schema_semantics.specs.Faults.{IsResolved, declared}
 use Rattle.schema_semantics.specs.Names.{Name, Among, IsOrLeads, IsTypeAt, Renames, declared_name}
 use Rattle.schema_semantics.proofs.Bools.{is-false}
@@ -32,11 +31,6 @@ called s i o h f = let (d, at, is) = what-stands s (name_at s i) i h in f d at �
 any_mapped : {X Y : Type 0} (f : X → Y) (p : Y → Bool) (xs : List X) → list_any (λ x. p (f x)) xs ≡ list_any p (map f xs)
 any_mapped f p [] = refl
 any_mapped f p (x ∷ xs) = ap (λ b. p (f x) || b) (any_mapped f p xs)
-
-pub every_get : (P : ℕ → Type 0) (xs : List ℕ) (i : ℕ) → Every P xs → i < length xs → P (get_or xs i 0)
-every_get P [] i h lt = absurd (omega (arith, lt))
-every_get P (x ∷ xs) zero h lt = h.0
-every_get P (x ∷ xs) (suc i) h lt = every_get P xs i h.1 (omega (arith, lt))
 
 -- one of some types after the other
 module _ (s : Schema) (text : List Item) (types : List ℕ) where

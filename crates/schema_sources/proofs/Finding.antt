@@ -1,12 +1,12 @@
 -- Each list of types has an answer: where its attribute of a name is found, and the one that `\entity.attribute` means.
 use Rattle.std.specs.Prelude.{◌≡◌, ℕ, Bool, true, false, List, Option, None, Some, slice_get}
 use Rattle.std.specs.List.{find, list_all, list_any, position_from}
-use Rattle.std.proofs.Common.{refl}
+use Rattle.std.proofs.Common.{refl, subst}
 use Rattle.digraph.specs.Graphs.{Graph, has, next}
 use Rattle.express_syntax.specs.Schemas.{Schema}
 use Rattle.schema_semantics.specs.Names.{Name, Declares}
 use Rattle.schema_semantics.specs.Faults.{IsResolved}
-use Rattle.schema_names.specs.Numbers.{number_of, HasNumber}
+use Rattle.schema_names.specs.Numbers.{HasNumber}
 use Rattle.schema_places.specs.declared.own.Meant.TheVariants.{All}
 use Rattle.schema_places.specs.Owned.{declares_at}
 use Rattle.schema_places.specs.Above.{AreAbove}
@@ -23,12 +23,13 @@ use Rattle.schema_sources.specs.declared.declaring.Declarer.TheVariants.{Nobody,
 use Rattle.schema_sources.specs.Deriving.{first_giving, derives}
 use Rattle.schema_sources.specs.Lowest.{leads, lowest_from, is_below}
 use Rattle.schema_sources.specs.Stored.{is_inverse, IsOwnPlace, IsStored, AreInverses}
-use Rattle.schema_sources.specs.Grouping.{IsInherited, IsMember}
+use Rattle.schema_sources.specs.Grouping.{IsInherited, IsMember, first_named}
+use Rattle.schema_sources.proofs.FirstNamed.{first-is, first-none}
 use Rattle.schema_sources.proofs.Naming.{nobody-declares, several-declare, one-declares, number-at, declares-alone, named-none, named-one, named-two}
 use Rattle.schema_sources.proofs.Giving.{derives-first}
 use Rattle.schema_sources.proofs.Deciding.{is-derived, lowest-is, none-is-lowest, lowest-number, gives-some, is-underived}
 use Rattle.schema_sources.proofs.Keeping.{own-place, inverse-found, inverse-there, is-stored, not-stored}
-use Rattle.schema_sources.proofs.Membership.{inherits-none, inherits-one, inherits-elsewhere, no-name, not-of-it, own-member, not-own, inherited-member, is-declaring, in-group, not-in-group}
+use Rattle.schema_sources.proofs.Membership.{inherits-none, inherits-one, inherits-elsewhere, not-here, own-member, not-own, inherited-member, is-declaring, in-group, not-in-group}
 
 -- how many declare it
 declarer : (s : Schema) (a : Name) (xs : List ℕ) → (d : Declarer) × AreDeclaring (declares_at s All a) xs d
@@ -133,7 +134,7 @@ module _ (s : Schema) (r : IsResolved s) (lines : Graph) (h : HaveLines s lines)
         by (One p) one = here p one (has types p) refl
 
     member : (o : Option ℕ) × IsMember s types e a o
-    member = by (number_of s e) refl
+    member = by (first_named s e types) refl
       where
         own : (i : ℕ) → HasNumber s e i → has types i ≡ true → (b : Bool) → declares_at s All a i ≡ b
             → (o : Option ℕ) × IsMember s types e a o
@@ -143,13 +144,11 @@ module _ (s : Schema) (r : IsResolved s) (lines : Graph) (h : HaveLines s lines)
             let (o, is) = inherited i k free in
             (o, inherited-member s types known a e i k m free o is)
 
-        here : (i : ℕ) → HasNumber s e i → (b : Bool) → has types i ≡ b → (o : Option ℕ) × IsMember s types e a o
-        here i k true m = own i k m (declares_at s All a i) refl
-        here i k false not = (None, not-of-it s types known a e i k not)
-
-        by : (o : Option ℕ) → number_of s e ≡ o → (o : Option ℕ) × IsMember s types e a o
-        by None none = (None, no-name s types known a e none)
-        by (Some i) k = here i k (has types i) refl
+        by : (o : Option ℕ) → first_named s e types ≡ o → (o : Option ℕ) × IsMember s types e a o
+        by None none = (None, not-here s types known a e (first-none s e types none))
+        by (Some i) some =
+            let (m, is) = first-is s e types i some in
+            own i (subst (λ n. HasNumber s n i) is (number-at s a types known i m)) m (declares_at s All a i) refl
 
     pub some-in-group : (x : Source) × IsInGroup s (inverses_seen s inverses) (types_seen s types) e a x
     some-in-group = let (o, is) = member in by o is

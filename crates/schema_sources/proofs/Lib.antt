@@ -16,3 +16,4 @@ pub mod Finding
 pub mod Renaming
 pub mod Saying
 pub mod Walking
+pub mod FirstNamed

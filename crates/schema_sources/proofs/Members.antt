@@ -1,5 +1,5 @@
 -- Members of lists of numbers, and of what these stand for.
-use Rattle.std.specs.Prelude.{◌≡◌, ℕ, Bool, IsTrue, true, false, cond, ◌||◌, ◌&&◌, List, [], ◌∷◌, Option, None, Some, map, eqb, ◌⊎◌, MatchOption}
+use Rattle.std.specs.Prelude.{◌≡◌, ◌<◌, ℕ, zero, suc, length, get_or, Bool, IsTrue, true, false, cond, ◌||◌, ◌&&◌, List, [], ◌∷◌, Option, None, Some, map, eqb, ◌⊎◌, MatchOption}
 use Rattle.std.specs.List.{find, list_all, list_any}
 use Rattle.std.proofs.Common.{refl, inl, inr, ap, sym, subst, ◌∙◌, arith}
 use Rattle.std.proofs.lemmas.Bool.Decides.{nat_tests}
@@ -50,6 +50,11 @@ pub among-seen : {B : Type 0} (f : ℕ → B) (xs : List ℕ) (b : B) → Among 
 among-seen f [] b m = elim m [ ]
 among-seen f (x ∷ xs) b (inl e) = (x, has-first x xs, e)
 among-seen f (x ∷ xs) b (inr m) = let (i, h, e) = among-seen f xs b m in (i, has-later x i xs h, e)
+
+pub every_get : (P : ℕ → Type 0) (xs : List ℕ) (i : ℕ) → Every P xs → i < length xs → P (get_or xs i 0)
+every_get P [] i h lt = absurd (omega (arith, lt))
+every_get P (x ∷ xs) zero h lt = h.0
+every_get P (x ∷ xs) (suc i) h lt = every_get P xs i h.1 (omega (arith, lt))
 
 pub every-has : (P : ℕ → Type 0) (xs : List ℕ) (i : ℕ) → Every P xs → has xs i ≡ true → P i
 every-has P [] i h m = absurd (cc)

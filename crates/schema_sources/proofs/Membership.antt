@@ -81,20 +81,10 @@ module _ (s : Schema) (types : List ℕ) (numbered : AreTypes s types) (a e : Na
   numbers : (q : ℕ) → has types q ≡ true → HasNumber s (name_at s q) q
   numbers q m = every-has (λ (x : ℕ). HasNumber s (name_at s x) x) types q numbered m
 
-  pub no-name : number_of s e ≡ None → IsMember s types e a None
-  no-name none p (m, k, ((x, at), h, which)) =
-      let (i, l) = each-number 0 s.declarations e (entity x) at in lacks i (sym none ∙ l)
-    where
-      lacks : (i : ℕ) → None ≡ Some i → ⊥
-      lacks i e = cc
+  pub not-here : ((j : ℕ) → has types j ≡ true → name_at s j ≡ e → ⊥) → IsMember s types e a None
+  not-here none p (m, n, rest) = let (j, l, is) = among-seen (name_at s) types e m in none j l is
 
   module _ (i : ℕ) (k : HasNumber s e i) where
-    pub not-of-it : has types i ≡ false → IsMember s types e a None
-    not-of-it not p (m, n, rest) =
-        let (j, l, is) = among-seen (name_at s) types e m in
-        let same : j ≡ i = one-number (number_of s) (name_at s j) e j i (numbers j l) k is in
-        differ (has types i) (subst (λ x. has types x ≡ true) same l) not
-
     here : has types i ≡ true → Among e (types_seen s types)
     here m = subst (λ n. Among n (types_seen s types)) (name-is s e i k) (seen-among (name_at s) types i m)
 

@@ -1,5 +1,5 @@
 -- Which attribute `\entity.attribute` means, by number (ISO 10303-11, 12.7.4).
-use Rattle.std.specs.Prelude.{◌≡◌, ℕ, true, List, Option, MatchOption}
+use Rattle.std.specs.Prelude.{◌≡◌, ℕ, true, cond, List, [], ◌∷◌, Option, None, Some, MatchOption, bytes_eq}
 use Rattle.digraph.specs.Graphs.{has}
 use Rattle.express_syntax.specs.Schemas.{Schema}
 use Rattle.schema_semantics.specs.Names.{Name, Among, Has, IsEntity}
@@ -17,6 +17,11 @@ abbrev pub IsInherited : Schema → List ℕ → Name → Name → Option ℕ �
 IsInherited s numbers e a o =
     MatchOption o ((p : Name) → IsOnly s numbers e a p → ⊥)
     (λ i. (has numbers i ≡ true) × HasNumber s (name_at s i) i × IsOnly s numbers e a (name_at s i))
+
+-- the first of these types that has a name
+abbrev pub first_named : Schema → Name → List ℕ → Option ℕ
+first_named s n [] = None
+first_named s n (i ∷ is) = cond (bytes_eq (name_at s i) n) (Some i) (first_named s n is)
 
 -- the type that declares the attribute which `\e.a` means, of an instance of these types
 abbrev pub IsMember : Schema → List ℕ → Name → Name → Option ℕ → Type 0

@@ -67,8 +67,8 @@ pub fn refine<'a>(
 }
 
 /// The classes of a population's value-equal instances, with these names pinned, where the shapes and
-/// references of its rows are known: those of [`refine`]. Kinds are hashed by these keys. `AllocError`
-/// comes where memory runs out.
+/// references of its rows are known under these pins, or under fewer: those of [`refine`]. Kinds are
+/// hashed by these keys. `AllocError` comes where memory runs out.
 pub fn refine_by<'a>(
     alloc: Global,
     keys: RandomState,
@@ -90,9 +90,9 @@ pub fn refine_by<'a>(
 }
 
 /// The classes of a population's value-equal instances, with these names pinned, by the shapes and
-/// references of its rows, which aren't needed any more: those of [`refine`]. Shapes and references are
-/// let go of before classes are numbered. Kinds are hashed by these keys. `AllocError` comes where
-/// memory runs out.
+/// references of its rows under these pins, or under fewer, which aren't needed any more: those of
+/// [`refine`]. Shapes and references are let go of before classes are numbered. Kinds are hashed by
+/// these keys. `AllocError` comes where memory runs out.
 pub fn refine_last<'a>(
     alloc: Global,
     keys: RandomState,

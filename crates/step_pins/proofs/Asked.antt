@@ -21,7 +21,7 @@ use Rattle.population_layouts.specs.Slots.{uses_by}
 use Rattle.conformance.specs.Elements.{HasUnique}
 use Rattle.step_pins.specs.Elements.{Question}
 use Rattle.step_pins.specs.Gathering.{Gathers}
-use Rattle.step_pins.specs.declared.weak_pins.WeakPins.{WeakPins}
+use Rattle.step_pins.specs.declared.gathered.Gathered.{Gathered}
 use Rattle.step_pins.proofs.Gathering.{gathers-alike}
 use Rattle.step_pins.specs.Holding.{may_hold}
 use Rattle.step_pins.specs.Slots.{slot_by, slots_of, asked, HasUniqueAt}
@@ -83,7 +83,7 @@ module _ (s : Schema) (d : Domain) (P : Values → Type 0) (vs : Values) (i : �
 
 -- the value at a position
 pub at-value : (s : Schema) (d : Domain) (P : Question → Values → Type 0) (vs : Values) (i : ℕ) (b : Base) (v : Value)
-    (old new : WeakPins) → Some v ≡ nth vs i → Gathers (λ q. HasUnique s d (P q) b v) old new
+    (old new : Gathered) → Some v ≡ nth vs i → Gathers (λ q. HasUnique s d (P q) b v) old new
     → Gathers (λ q. HasUniqueAt s d (P q) vs (i, b)) old new
 at-value s d P vs i b v old new at h =
     gathers-alike (λ q. HasUnique s d (P q) b v) (λ q. HasUniqueAt s d (P q) vs (i, b)) old new

@@ -1,11 +1,11 @@
 -- What the passes over a population pin together.
-use Rattle.std.specs.Prelude.{◌≡◌, ℕ, ◌==◌, Bool, true, false, cond, IsTrue, List, [], ◌∷◌, Option, None, Some, ◌⊎◌, ◌↔◌}
+use Rattle.std.specs.Prelude.{◌≡◌, ℕ, ◌==◌, Bool, true, false, cond, IsTrue, List, [], ◌∷◌, Option, None, Some, ◌⊎◌, ◌||◌, ◌↔◌, Vec}
 use Rattle.std.specs.BTreeMap.{is_at}
 use Rattle.std.specs.BTreeSet.{BTreeSet}
 use Rattle.std.specs.List.{AllZip, IsDistinct, list_any}
 use Rattle.std.specs.Ordering.{nat_cmp}
-use Rattle.std.proofs.Common.{refl, sym, ap, subst, ◌∙◌, inl, inr}
-use Rattle.std.proofs.lemmas.Bool.{eqb-true}
+use Rattle.std.proofs.Common.{refl, sym, ap, subst, ◌∙◌, inl, inr, Global}
+use Rattle.std.proofs.lemmas.Bool.{eqb-true, false≢true}
 use Rattle.express_syntax.specs.Schemas.{Schema}
 use Rattle.schema_semantics.specs.Names.{Name, OneOf, Among}
 use Rattle.schema_semantics.specs.Attributes.{Place}
@@ -20,7 +20,7 @@ use Rattle.conformance.specs.Rules.{UniqueRule, Rules}
 use Rattle.conformance.proofs.Holding.{at_own_name, named_at}
 use Rattle.conformance.proofs.Standing.{one_is, found}
 use Rattle.step_equal.specs.Maps.{is_pinned}
-use Rattle.step_pins.specs.Pinning.{Pins}
+use Rattle.step_pins.specs.Pinning.{has_name, Pins}
 use Rattle.step_pins.specs.Rows.{StandsInKey, PinsByForm}
 
 -- the instance of a name
@@ -125,10 +125,10 @@ module _ (s : Schema) (d : Domain) (en : Entities) (rules : Rules) (chosen : Lis
       back (inr h) = inr h
 
 -- from no name on
-pub from-none : (P : ℕ → Type 0) (old new : BTreeSet ℕ) → old.keys ≡ [] → Pins P old new → (y : ℕ)
-    → IsTrue (is_pinned new y) ↔ P y
+pub from-none : (P : ℕ → Type 0) (old new : Vec ℕ Global) → old.items ≡ [] → Pins P old new → (y : ℕ)
+    → IsTrue (has_name new y) ↔ P y
 from-none P old new empty h y = (
-  (λ t. elim ((h y).0 t) [ inl k ↦ let none : is_pinned old y ≡ false = ap (list_any (is_at (nat_cmp y))) empty in absurd (cc) | inr p ↦ p ]),
+  (λ t. elim ((h y).0 t) [ inl k ↦ let none : has_name old y ≡ false = ap (list_any (is_at (nat_cmp y))) empty in absurd (cc) | inr p ↦ p ]),
   (λ p. (h y).1 (inr p)),
 )
 
@@ -139,6 +139,24 @@ same-names [] (y ∷ ys) h = absurd h
 same-names (x ∷ xs) [] h = absurd h
 same-names (x ∷ xs) (y ∷ ys) h = λ i. h.0 i ∷ same-names xs ys h.1 i
 
-pub pins-from : (P : ℕ → Type 0) (old copy new : BTreeSet ℕ) → copy.keys ≡ old.keys → Pins P copy new → Pins P old new
-pins-from P old copy new same h y =
-    subst (λ b. IsTrue (is_pinned new y) ↔ (IsTrue b ⊎ P y)) (ap (list_any (is_at (nat_cmp y))) same) (h y)
+-- names beside those of a copy
+pub pins-more : (P : ℕ → Type 0) (old copy : List ℕ) (new : BTreeSet ℕ) (none more : Vec ℕ Global) → none.items ≡ []
+    → Pins P none more → copy ≡ old
+    → ((y : ℕ) → is_pinned new y ≡ (list_any (is_at (nat_cmp y)) copy || has_name more y)) → (y : ℕ)
+    → IsTrue (is_pinned new y) ↔ (IsTrue (list_any (is_at (nat_cmp y)) old) ⊎ P y)
+pins-more P old copy new none more empty h same both y = by (list_any (is_at (nat_cmp y)) old) refl
+  where
+    told : IsTrue (has_name more y) ↔ P y
+    told = from-none P none more empty h y
+
+    all : is_pinned new y ≡ (list_any (is_at (nat_cmp y)) old || has_name more y)
+    all = both y ∙ ap (λ l. list_any (is_at (nat_cmp y)) l || has_name more y) same
+
+    by : (a : Bool) → list_any (is_at (nat_cmp y)) old ≡ a
+        → IsTrue (is_pinned new y) ↔ (IsTrue (list_any (is_at (nat_cmp y)) old) ⊎ P y)
+    by true p = ((λ t. inl p), (λ k. all ∙ ap (λ b. b || has_name more y) p))
+    by false p =
+        let one : is_pinned new y ≡ has_name more y = all ∙ ap (λ b. b || has_name more y) p in (
+          (λ t. inr (told.0 (sym one ∙ t))),
+          (λ k. elim k [ inl q ↦ absurd (false≢true (sym p ∙ q)) | inr q ↦ one ∙ told.1 q ]),
+        )

@@ -1,7 +1,6 @@
 -- The SETs and BAGs among the values of attributes, one by one.
-use Rattle.std.specs.Prelude.{◌≡◌, ℕ, zero, suc, ◌+◌, ◌<◌, ◌≤◌, false, List, [], ◌∷◌, length, drop, Option, None, Some, ◌⊎◌, ◌↔◌}
-use Rattle.std.specs.BTreeSet.{BTreeSet}
-use Rattle.std.proofs.Common.{refl, sym, ap, subst, ◌∙◌, arith, add-one}
+use Rattle.std.specs.Prelude.{◌≡◌, ℕ, zero, suc, ◌+◌, ◌<◌, ◌≤◌, false, List, [], ◌∷◌, length, drop, None, Some, ◌⊎◌, ◌↔◌, Vec}
+use Rattle.std.proofs.Common.{refl, sym, subst, arith, add-one, Global}
 use Rattle.express_syntax.specs.Schemas.{Schema}
 use Rattle.schema_semantics.specs.Names.{OneOf}
 use Rattle.conformance.specs.Populations.{Slot}
@@ -41,7 +40,7 @@ after-none none (suc i) e = refl
 after-none (more v vs) zero e = absurd (cc)
 after-none (more v vs) (suc i) e = after-none vs i e
 
-module _ (s : Schema) (xs : List SlotForm) (vs : Values) (old : BTreeSet ℕ) where
+module _ (s : Schema) (xs : List SlotForm) (vs : Values) (old : Vec ℕ Global) where
   abbrev In : List Slot → ℕ → Type 0
   In slots y = OneOf (λ (x : Slot). InBag y x.value) slots
 
@@ -49,7 +48,7 @@ module _ (s : Schema) (xs : List SlotForm) (vs : Values) (old : BTreeSet ℕ) wh
   Left i = slots_seen s (drop i xs) (after i vs)
 
   -- one value more
-  pub next : (i : ℕ) (v : Value) (mid new : BTreeSet ℕ) → i < length xs → nth vs i ≡ Some v
+  pub next : (i : ℕ) (v : Value) (mid new : Vec ℕ Global) → i < length xs → nth vs i ≡ Some v
       → PinsUpTo (In (slots_seen s xs vs)) (In (Left i)) old mid → Pins (λ y. InBag y v) mid new
       → PinsUpTo (In (slots_seen s xs vs)) (In (Left (i + 1))) old new
   next i v mid new lt at h k =
@@ -60,7 +59,7 @@ module _ (s : Schema) (xs : List SlotForm) (vs : Values) (old : BTreeSet ℕ) wh
       (sym (after_at vs i v at)) ((λ t. t), (λ t. t))))
 
   -- no attribute more
-  pub ends : (i : ℕ) (new : BTreeSet ℕ) → length xs ≤ i → PinsUpTo (In (slots_seen s xs vs)) (In (Left i)) old new
+  pub ends : (i : ℕ) (new : Vec ℕ Global) → length xs ≤ i → PinsUpTo (In (slots_seen s xs vs)) (In (Left i)) old new
       → Pins (In (slots_seen s xs vs)) old new
   ends i new past h =
       pinning.ends (In (slots_seen s xs vs)) (In (Left i)) old new h
@@ -71,7 +70,7 @@ module _ (s : Schema) (xs : List SlotForm) (vs : Values) (old : BTreeSet ℕ) wh
   no-slots (x ∷ ys) = refl
 
   -- no value more
-  pub ends-early : (i : ℕ) (new : BTreeSet ℕ) → nth vs i ≡ None
+  pub ends-early : (i : ℕ) (new : Vec ℕ Global) → nth vs i ≡ None
       → PinsUpTo (In (slots_seen s xs vs)) (In (Left i)) old new → Pins (In (slots_seen s xs vs)) old new
   ends-early i new at h =
       pinning.ends (In (slots_seen s xs vs)) (In (Left i)) old new h

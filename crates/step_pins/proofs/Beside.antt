@@ -5,11 +5,11 @@ use Rattle.schema_semantics.specs.Names.{OneOf, Among}
 use Rattle.step_values.specs.Values.{Value, leaf, reference, typed, sequence, bag, Values, none, more}
 use Rattle.conformance.proofs.Standing.{some_other}
 use Rattle.conformance.specs.Elements.{AnElement, IsReferenceTo, StandsWithin, IsAnotherOfClass}
-use Rattle.step_pins.specs.Elements.{Question, inside, beside, Asks}
+use Rattle.step_pins.specs.Elements.{inside, beside, Asks}
 use Rattle.step_pins.specs.Gathering.{Gathers}
 use Rattle.step_pins.specs.Lists.{names_in, stand_in, with_list, StandsBeside}
 use Rattle.step_pins.specs.Pinning.{Pins}
-use Rattle.step_pins.specs.declared.weak_pins.WeakPins.{WeakPins}
+use Rattle.step_pins.specs.declared.gathered.Gathered.{Gathered}
 use Rattle.step_pins.proofs.Listed.{one-either, one-left, one-right}
 
 -- a name of the list is an element that refers to it
@@ -80,8 +80,8 @@ listed E y ls (x ∷ z ∷ l) = (
 )
 
 -- one list more, and what stands inside its elements
-pub gathers-list : (vs : Values) (old new : WeakPins) → new.lists ≡ with_list old.lists (stand_in vs)
-    → Pins (λ y. AnElement (StandsWithin y) vs) old.pins.names new.pins.names → Gathers (λ q. Asks q vs) old new
+pub gathers-list : (vs : Values) (old new : Gathered) → new.lists ≡ with_list old.lists (stand_in vs)
+    → Pins (λ y. AnElement (StandsWithin y) vs) old.names new.names → Gathers (λ q. Asks q vs) old new
 gathers-list vs old new lists pins (inside y) = pins y
 gathers-list vs old new lists pins (beside E y) =
     subst (λ ls. OneOf (StandsBeside E y) ls ↔ (OneOf (StandsBeside E y) old.lists ⊎ Asks (beside E y) vs)) (sym lists)

@@ -1,9 +1,8 @@
 -- The instances of one class, by the first of them.
-use Rattle.std.specs.Prelude.{◌≡◌, ◌≢◌, ℕ, ◌==◌, Bool, true, false, cond, List, [], ◌∷◌, ◌++◌, length, drop, slice_get, Option, None, Some, ◌⊎◌, ◌↔◌}
+use Rattle.std.specs.Prelude.{◌≡◌, ◌≢◌, ℕ, ◌==◌, Bool, true, false, cond, List, [], ◌∷◌, ◌++◌, length, drop, slice_get, Option, None, Some, ◌⊎◌, ◌↔◌, Vec}
 use Rattle.std.specs.BTreeMap.{BTreeMap, get}
-use Rattle.std.specs.BTreeSet.{BTreeSet}
 use Rattle.std.specs.Ordering.{nat_cmp}
-use Rattle.std.proofs.Common.{refl, sym, ap, subst, ◌∙◌, ◌+◌, ◌≤◌, inl, inr, append-nil, append_assoc}
+use Rattle.std.proofs.Common.{refl, sym, ap, subst, ◌∙◌, ◌+◌, ◌≤◌, inl, inr, append-nil, append_assoc, Global}
 use Rattle.std.proofs.lemmas.Bool.{eqb-true, eqb-false, eq-eqb}
 use Rattle.schema_semantics.specs.Names.{Among}
 use Rattle.schema_semantics.proofs.Lists.{among-left, among-right, among-either}
@@ -12,7 +11,7 @@ use Rattle.step_pins.specs.Pinning.{Pins}
 use Rattle.step_pins.specs.Classes.{AreFirsts, share_class, with_name, with_member, members_of, first_of, ComesBeside, ComesAfter, HasClassmate}
 use Rattle.step_pins.specs.Lists.{StandsBeside}
 use Rattle.step_pins.proofs.Adding.{drop-item, drop-all}
-use Rattle.step_pins.proofs.Pinning.{pins-alike, pins-both, pins-nothing}
+use Rattle.step_pins.proofs.Pinning.{pins-alike, pins-both}
 
 -- two numbers are one, or not
 same-or-not : (a b : ℕ) → (a ≡ b) ⊎ (a ≢ b)
@@ -241,7 +240,7 @@ module _ (of : ℕ → Option ℕ) where
           (c, z, to-members c y l e here, to-members c z l f there, other)
 
   -- how far a list is gone over
-  pub record IsGone (l : List ℕ) (i : ℕ) (firsts : BTreeMap ℕ ℕ) (old new : BTreeSet ℕ) : Type 0 where
+  pub record IsGone (l : List ℕ) (i : ℕ) (firsts : BTreeMap ℕ ℕ) (old new : Vec ℕ Global) : Type 0 where
     pub before : List (ℕ × ℕ)
     pub all : before ++ members_of of (drop i l) ≡ members_of of l
     pub first : AreFirsts firsts before
@@ -252,7 +251,7 @@ module _ (of : ℕ → Option ℕ) where
   joined-member None before ms = ap (λ l. l ++ ms) (append-nil before)
   joined-member (Some m) before ms = append_assoc before (m ∷ []) ms
 
-  pub gone-next : (l : List ℕ) (i y : ℕ) (firsts newer : BTreeMap ℕ ℕ) (old mid new : BTreeSet ℕ)
+  pub gone-next : (l : List ℕ) (i y : ℕ) (firsts newer : BTreeMap ℕ ℕ) (old mid new : Vec ℕ Global)
       → slice_get l i ≡ Some y → IsGone l i firsts old mid
       → ((before : List (ℕ × ℕ)) → AreFirsts firsts before
       → AreFirsts newer (before ++ with_member (with_name y (of y)) [])
@@ -269,7 +268,7 @@ module _ (of : ℕ → Option ℕ) where
             (pins-both (HasClassmate h.before) (ComesAfter h.before (with_name y (of y))) old mid new h.pinned goes.1);
       }
 
-  pub gone-all : (l : List ℕ) (i : ℕ) (firsts : BTreeMap ℕ ℕ) (old new : BTreeSet ℕ) → length l ≤ i
+  pub gone-all : (l : List ℕ) (i : ℕ) (firsts : BTreeMap ℕ ℕ) (old new : Vec ℕ Global) → length l ≤ i
       → IsGone l i firsts old new → Pins (HasClassmate (members_of of l)) old new
   gone-all l i firsts old new past h =
       subst (λ ms. Pins (HasClassmate ms) old new)

@@ -4,7 +4,7 @@ use Rattle.std.proofs.Common.{sym, subst, inl, inr}
 use Rattle.schema_semantics.specs.Names.{OneOf}
 use Rattle.step_pins.specs.Elements.{Question}
 use Rattle.step_pins.specs.Gathering.{Gathers, GathersUpTo}
-use Rattle.step_pins.specs.declared.weak_pins.WeakPins.{WeakPins}
+use Rattle.step_pins.specs.declared.gathered.Gathered.{Gathered}
 use Rattle.step_pins.proofs.Gathering as gathering
 use Rattle.step_pins.proofs.Adding.{drop-item, drop-all}
 
@@ -22,9 +22,9 @@ pub one-right : {A : Type 0} (P : A → Type 0) (xs ys : List A) → OneOf P ys 
 one-right P [] ys h = h
 one-right P (x ∷ xs) ys h = inr (one-right P xs ys h)
 
-module _ {A : Type 0} (R : Question → A → Type 0) (xs : List A) (i : ℕ) (old : WeakPins) where
+module _ {A : Type 0} (R : Question → A → Type 0) (xs : List A) (i : ℕ) (old : Gathered) where
   -- one item more
-  pub next : (x : A) (mid new : WeakPins) → slice_get xs i ≡ Some x
+  pub next : (x : A) (mid new : Gathered) → slice_get xs i ≡ Some x
       → GathersUpTo (λ q. OneOf (R q) xs) (λ q. OneOf (R q) (drop i xs)) old mid → Gathers (λ q. R q x) mid new
       → GathersUpTo (λ q. OneOf (R q) xs) (λ q. OneOf (R q) (drop (i + 1) xs)) old new
   next x mid new at h k =
@@ -34,7 +34,7 @@ module _ {A : Type 0} (R : Question → A → Type 0) (xs : List A) (i : ℕ) (o
       ((λ t. t), (λ t. t)))
 
   -- all of them
-  pub ends : (new : WeakPins) → length xs ≤ i
+  pub ends : (new : Gathered) → length xs ≤ i
       → GathersUpTo (λ q. OneOf (R q) xs) (λ q. OneOf (R q) (drop i xs)) old new
       → Gathers (λ q. OneOf (R q) xs) old new
   ends new past h =

@@ -26,7 +26,7 @@ use Rattle.population_typed.specs.Rows.{or_nowhere, place_at, slots_seen, instan
 use Rattle.population_typed.specs.Whole.{form_among, ArePlaced, HaveEntities, AreNumbered}
 use Rattle.step_pins.specs.Elements.{Question}
 use Rattle.step_pins.specs.Gathering.{Gathers}
-use Rattle.step_pins.specs.declared.weak_pins.WeakPins.{WeakPins}
+use Rattle.step_pins.specs.declared.gathered.Gathered.{Gathered}
 use Rattle.step_pins.proofs.Gathering.{gathers-alike}
 use Rattle.step_pins.specs.declared.slots.UniqueSlot.{UniqueSlot}
 use Rattle.step_pins.specs.Slots.{slot_seen, HaveNumbers, slots_of, asked, form_slots, IsUniqueRow, IsRowOf, slots_at, HasUniqueAt}
@@ -154,7 +154,7 @@ module _ (r s : Schema) (same : r ≡ s) (t : Uses) (forms listed : List Form) (
 
   pub gathers-instance : AreUses s t → (d : Domain) → IsDomain s d → (en : Entities) → AreEntities s en
       → Every (AreNumbered s) listed → ArePlaced s (form_among forms f) → HaveEntities s (form_among forms f)
-      → (P : Question → Values → Type 0) (n k : ℕ) (vs : Values) (old new : WeakPins)
+      → (P : Question → Values → Type 0) (n k : ℕ) (vs : Values) (old new : Gathered)
       → Gathers (λ q. OneOf (HasUniqueAt r d (P q) vs) (map (slot_seen r) slots)) old new
       → Gathers (λ q. HasUniqueValue s d en (P q) (instance_seen s n k (form_among forms f) vs)) old new
   gathers-instance uses d dom en g numbered placed entities P n k vs old new h =

@@ -1,7 +1,6 @@
 -- Steps over values one after another.
-use Rattle.std.specs.Prelude.{◌≡◌, ℕ, ◌+◌, ◌≤◌, Some, ◌⊎◌, ◌↔◌}
-use Rattle.std.specs.BTreeSet.{BTreeSet}
-use Rattle.std.proofs.Common.{sym, subst}
+use Rattle.std.specs.Prelude.{◌≡◌, ℕ, ◌+◌, ◌≤◌, Some, ◌⊎◌, ◌↔◌, Vec}
+use Rattle.std.proofs.Common.{sym, subst, Global}
 use Rattle.step_values.specs.ComputedAgreement.{size}
 use Rattle.step_values.specs.Slots.{nth}
 use Rattle.step_values.specs.Values.{Value, Values, none, more}
@@ -12,9 +11,9 @@ use Rattle.step_pins.proofs.Pinning as pinning
 -- what holds of one of some values
 module _ (P : ℕ → Value → Type 0) (One : ℕ → Values → Type 0) (empty : (y : ℕ) → One y none → ⊥)
     (first : (y : ℕ) (v : Value) (vs : Values) → One y (more v vs) ↔ (P y v ⊎ One y vs)) (vs : Values) (i : ℕ)
-    (old : BTreeSet ℕ) where
+    (old : Vec ℕ Global) where
   -- one value more
-  pub next : (v : Value) (mid new : BTreeSet ℕ) → nth vs i ≡ Some v
+  pub next : (v : Value) (mid new : Vec ℕ Global) → nth vs i ≡ Some v
       → PinsUpTo (λ y. One y vs) (λ y. One y (after i vs)) old mid → Pins (λ y. P y v) mid new
       → PinsUpTo (λ y. One y vs) (λ y. One y (after (i + 1) vs)) old new
   next v mid new at h k =
@@ -25,7 +24,7 @@ module _ (P : ℕ → Value → Type 0) (One : ℕ → Values → Type 0) (empty
       back v at = sym (after_at vs i v at)
 
   -- all of them
-  pub ends : (new : BTreeSet ℕ) → size vs ≤ i → PinsUpTo (λ y. One y vs) (λ y. One y (after i vs)) old new
+  pub ends : (new : Vec ℕ Global) → size vs ≤ i → PinsUpTo (λ y. One y vs) (λ y. One y (after i vs)) old new
       → Pins (λ y. One y vs) old new
   ends new past h =
       pinning.ends (λ y. One y vs) (λ y. One y (after i vs)) old new h

@@ -12,7 +12,7 @@ use Rattle.conformance.specs.Fitting.{inner}
 use Rattle.conformance.specs.Elements.{HasUnique, HasUniqueAmong}
 use Rattle.step_pins.specs.Elements.{Question}
 use Rattle.step_pins.specs.Gathering.{Gathers, GathersUpTo}
-use Rattle.step_pins.specs.declared.weak_pins.WeakPins.{WeakPins}
+use Rattle.step_pins.specs.declared.gathered.Gathered.{Gathered}
 use Rattle.step_pins.proofs.Gathering.{gathers-alike, gathers-both, gathers-nothing}
 use Rattle.step_pins.proofs.Gathering as gathering
 use Rattle.step_pins.specs.Holding.{is_unique, may_hold, IsUnique, HasInElements}
@@ -37,7 +37,7 @@ unique-aggregate (entity n) e = absurd (cc)
 unique-aggregate (select m) e = absurd (cc)
 unique-aggregate (aggregate a) e = (a, refl, e)
 
-module _ (s : Schema) (d : Domain) (P : Question → Values → Type 0) (old new : WeakPins) where
+module _ (s : Schema) (d : Domain) (P : Question → Values → Type 0) (old new : Gathered) where
   -- a typed value of an item of a SELECT
   pub in-typed : (b c : Base) (word : Name) (v w : Value) → typed word v ≡ w → inner s d b word ≡ Some c
       → Gathers (λ q. HasUnique s d (P q) c v) old new → Gathers (λ q. HasUnique s d (P q) b w) old new
@@ -50,7 +50,7 @@ module _ (s : Schema) (d : Domain) (P : Question → Values → Type 0) (old new
       )) h)
 
   -- both parts of what is asked of a LIST or ARRAY
-  pub in-sequence : (b : Base) (vs : Values) (w : Value) (mid : WeakPins) → sequence vs ≡ w
+  pub in-sequence : (b : Base) (vs : Values) (w : Value) (mid : Gathered) → sequence vs ≡ w
       → Gathers (λ q. IsUnique (P q) b vs) old mid → Gathers (λ q. HasInElements s d (P q) b vs) mid new
       → Gathers (λ q. HasUnique s d (P q) b w) old new
   in-sequence b vs w mid is h k =
@@ -84,27 +84,27 @@ module _ (s : Schema) (d : Domain) (P : Question → Values → Type 0) (old new
       )) h
 
 module _ (P : Question → Values → Type 0) where
-  pub if-unique : (old new : WeakPins) (b : Base) (vs : Values) → is_unique b ≡ true
+  pub if-unique : (old new : Gathered) (b : Base) (vs : Values) → is_unique b ≡ true
       → Gathers (λ q. P q vs) old new → Gathers (λ q. IsUnique (P q) b vs) old new
   if-unique old new b vs u h =
       gathers-alike (λ q. P q vs) (λ q. IsUnique (P q) b vs) old new (λ q. ((λ p. (u, p)), (λ k. k.1))) h
 
-  pub if-not-unique : (set : WeakPins) (b : Base) (vs : Values) → is_unique b ≡ false
+  pub if-not-unique : (set : Gathered) (b : Base) (vs : Values) → is_unique b ≡ false
       → Gathers (λ q. IsUnique (P q) b vs) set set
   if-not-unique set b vs u = gathers-nothing (λ q. IsUnique (P q) b vs) set (λ q h. not-both (is_unique b) u h.0)
 
-module _ (s : Schema) (d : Domain) (P : Question → Values → Type 0) (set : WeakPins) where
+module _ (s : Schema) (d : Domain) (P : Question → Values → Type 0) (set : Gathered) where
   pub not-among : (b : Base) (vs : Values) → may_hold d b ≡ false
       → Gathers (λ q. HasUniqueAmong s d (P q) b vs) set set
   not-among b vs e =
       gathers-nothing (λ q. HasUniqueAmong s d (P q) b vs) set (λ q h. none-held-among s d (P q) b vs e h)
 
 -- one value more, and all of them
-module _ (s : Schema) (d : Domain) (P : Question → Values → Type 0) (b : Base) (vs : Values) (i : ℕ) (old : WeakPins) where
+module _ (s : Schema) (d : Domain) (P : Question → Values → Type 0) (b : Base) (vs : Values) (i : ℕ) (old : Gathered) where
   abbrev One : Question → Values → Type 0
   One q us = HasUniqueAmong s d (P q) b us
 
-  pub next : (v : Value) (mid new : WeakPins) → nth vs i ≡ Some v
+  pub next : (v : Value) (mid new : Gathered) → nth vs i ≡ Some v
       → GathersUpTo (λ q. One q vs) (λ q. One q (after i vs)) old mid
       → Gathers (λ q. HasUnique s d (P q) b v) mid new
       → GathersUpTo (λ q. One q vs) (λ q. One q (after (i + 1) vs)) old new
@@ -114,7 +114,7 @@ module _ (s : Schema) (d : Domain) (P : Question → Values → Type 0) (b : Bas
       (λ q. subst (λ us. One q us ↔ (HasUnique s d (P q) b v ⊎ One q (after (i + 1) vs))) (sym (after_at vs i v at))
       ((λ t. t), (λ t. t)))
 
-  pub ends : (new : WeakPins) → size vs ≤ i → GathersUpTo (λ q. One q vs) (λ q. One q (after i vs)) old new
+  pub ends : (new : Gathered) → size vs ≤ i → GathersUpTo (λ q. One q vs) (λ q. One q (after i vs)) old new
       → Gathers (λ q. One q vs) old new
   ends new past h =
       gathering.ends (λ q. One q vs) (λ q. One q (after i vs)) old new h

@@ -1,13 +1,18 @@
 -- How names are pinned, one behind the other.
-use Rattle.std.specs.Prelude.{◌≡◌, ℕ, IsTrue, ◌⊎◌, ◌↔◌}
-use Rattle.std.specs.BTreeSet.{BTreeSet}
-use Rattle.step_equal.specs.Maps.{is_pinned}
+use Rattle.std.specs.Prelude.{ℕ, Bool, IsTrue, ◌⊎◌, ◌↔◌, Vec}
+use Rattle.std.specs.BTreeMap.{is_at}
+use Rattle.std.specs.List.{list_any}
+use Rattle.std.specs.Ordering.{nat_cmp}
 
--- the set goes on with the names of which P holds
-abbrev pub Pins : (ℕ → Type 0) → BTreeSet ℕ → BTreeSet ℕ → Type 0
-Pins P old new = (y : ℕ) → IsTrue (is_pinned new y) ↔ (IsTrue (is_pinned old y) ⊎ P y)
+-- whether a name is one of these
+abbrev pub has_name : {Z : Type 0} → Vec ℕ Z → ℕ → Bool
+has_name names y = list_any (is_at (nat_cmp y)) names.items
+
+-- the names go on with those of which P holds
+abbrev pub Pins : {Z : Type 0} → (ℕ → Type 0) → Vec ℕ Z → Vec ℕ Z → Type 0
+Pins P old new = (y : ℕ) → IsTrue (has_name new y) ↔ (IsTrue (has_name old y) ⊎ P y)
 
 -- .. and others are left
-abbrev pub PinsUpTo : (ℕ → Type 0) → (ℕ → Type 0) → BTreeSet ℕ → BTreeSet ℕ → Type 0
+abbrev pub PinsUpTo : {Z : Type 0} → (ℕ → Type 0) → (ℕ → Type 0) → Vec ℕ Z → Vec ℕ Z → Type 0
 PinsUpTo P left old new =
-    (y : ℕ) → (IsTrue (is_pinned new y) ⊎ left y) ↔ (IsTrue (is_pinned old y) ⊎ P y)
+    (y : ℕ) → (IsTrue (has_name new y) ⊎ left y) ↔ (IsTrue (has_name old y) ⊎ P y)

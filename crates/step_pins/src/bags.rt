@@ -8,7 +8,6 @@ ghost use Rattle.step_pins.specs.Pinning.{Pins};
 
 use crate::targets::pin_each_target;
 use std::alloc::AllocError;
-use std::collections::BTreeSet;
 use step_values::slot::{Kind, Node, Slot, Slots};
 
 /// Whether a value can have values in it.
@@ -22,7 +21,7 @@ fn has_parts(value: &Slot<'_, '_>) -> bool
 /// depth. `AllocError` comes where memory runs out.
 #[cycle(bags)]
 #[inline(always)]
-pub fn pin_in_bags(pinned: &mut BTreeSet<u64>, value: &Slot<'_, '_>) -> Result<(), AllocError>
+pub fn pin_in_bags(pinned: &mut Vec<u64>, value: &Slot<'_, '_>) -> Result<(), AllocError>
     ensures { OnOk result (Pins (λ y. InBag y value.now) pinned.old pinned.new) }
 {
     // most values have none in them
@@ -35,7 +34,7 @@ pub fn pin_in_bags(pinned: &mut BTreeSet<u64>, value: &Slot<'_, '_>) -> Result<(
 /// .. that an outermost part is or has in it.
 #[cycle(bags)]
 #[inline(never)]
-fn pin_in_bags_of_node(pinned: &mut BTreeSet<u64>, node: &Node<'_, '_>) -> Result<(), AllocError>
+fn pin_in_bags_of_node(pinned: &mut Vec<u64>, node: &Node<'_, '_>) -> Result<(), AllocError>
     ensures { OnOk result (Pins (λ y. InBag y (node_value node.now)) pinned.old pinned.new) }
 {
     match node {
@@ -48,7 +47,7 @@ fn pin_in_bags_of_node(pinned: &mut BTreeSet<u64>, node: &Node<'_, '_>) -> Resul
 
 /// .. that one of these values is or has in it.
 #[cycle(bags)]
-fn pin_in_bags_of_each(pinned: &mut BTreeSet<u64>, values: &Slots<'_, '_>) -> Result<(), AllocError>
+fn pin_in_bags_of_each(pinned: &mut Vec<u64>, values: &Slots<'_, '_>) -> Result<(), AllocError>
     ensures { OnOk result (Pins (λ y. InBagOf y values.now) pinned.old pinned.new) }
 {
     for i in 0..values.len() {

@@ -19,7 +19,7 @@ ghost use Rattle.step_pins.specs.Classes.{
 use crate::pinned_names::pin;
 use population_rows::index::RowIndex;
 use std::alloc::{AllocError, Global};
-use std::collections::{BTreeMap, BTreeSet};
+use std::collections::BTreeMap;
 use std::hash::RandomState;
 use step_equal::table::{Table, class_above};
 
@@ -74,7 +74,7 @@ impl<'t> Classes<'t> {
 }
 
 /// Pins the first name of a class and a later one, where they are two.
-fn pin_two(pinned: &mut BTreeSet<u64>, first: u64, name: u64) -> Result<(), AllocError>
+fn pin_two(pinned: &mut Vec<u64>, first: u64, name: u64) -> Result<(), AllocError>
     ensures { OnOk result (Pins (ComesBeside (Some first) name) pinned.old pinned.new) }
 {
     if first != name {
@@ -86,7 +86,7 @@ fn pin_two(pinned: &mut BTreeSet<u64>, first: u64, name: u64) -> Result<(), Allo
 
 /// Goes on with an instance of this class; the first of each class are kept.
 fn pin_beside_first(
-    pinned: &mut BTreeSet<u64>,
+    pinned: &mut Vec<u64>,
     firsts: &mut BTreeMap<u32, u64>,
     class: u32,
     name: u64,
@@ -106,7 +106,7 @@ fn pin_beside_first(
 
 /// Goes on with an instance; one that has no class is passed over.
 fn pin_element(
-    pinned: &mut BTreeSet<u64>,
+    pinned: &mut Vec<u64>,
     firsts: &mut BTreeMap<u32, u64>,
     classes: &Classes<'_>,
     name: u64,
@@ -126,7 +126,7 @@ fn pin_element(
 /// Pins those of these instances of whose class another one is among them.
 pub(crate) fn pin_classmates(
     alloc: Global,
-    pinned: &mut BTreeSet<u64>,
+    pinned: &mut Vec<u64>,
     classes: &Classes<'_>,
     names: &[u64],
 ) -> Result<(), AllocError>

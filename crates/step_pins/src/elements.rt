@@ -6,11 +6,10 @@ ghost use Rattle.step_pins.specs.Pinning.{Pins};
 
 use crate::targets::{pin_each_target, pin_targets};
 use std::alloc::AllocError;
-use std::collections::BTreeSet;
 use step_values::slot::{Node, Slot, Slots};
 
 /// Pins the instances that stand in a value that isn't a reference itself.
-fn pin_within(pinned: &mut BTreeSet<u64>, value: &Slot<'_, '_>) -> Result<(), AllocError>
+fn pin_within(pinned: &mut Vec<u64>, value: &Slot<'_, '_>) -> Result<(), AllocError>
     ensures { OnOk result (Pins (λ y. StandsWithin y value.now) pinned.old pinned.new) }
 {
     match value.node() {
@@ -22,10 +21,7 @@ fn pin_within(pinned: &mut BTreeSet<u64>, value: &Slot<'_, '_>) -> Result<(), Al
 }
 
 /// Pins the instances that stand in one of these elements, other than as that element itself.
-pub(crate) fn pin_inside(
-    pinned: &mut BTreeSet<u64>,
-    values: &Slots<'_, '_>,
-) -> Result<(), AllocError>
+pub(crate) fn pin_inside(pinned: &mut Vec<u64>, values: &Slots<'_, '_>) -> Result<(), AllocError>
     ensures { OnOk result (Pins (λ y. AnElement (StandsWithin y) values.now) pinned.old pinned.new) }
 {
     for i in 0..values.len() {

@@ -6,6 +6,7 @@ pub mod bags;
 pub mod classes;
 pub mod elements;
 mod forms;
+mod gathered;
 mod holding;
 pub mod lists;
 pub mod pinned_names;

@@ -26,15 +26,10 @@ use population_typed::instances::InstanceRow;
 use population_typed::population::Population;
 use schema_rules::tables::RuleTables;
 use std::alloc::{AllocError, Global};
-use std::collections::BTreeSet;
 use step_values::slot::Slots;
 
 /// Pins what the values at these positions refer to.
-fn pin_keys(
-    pinned: &mut BTreeSet<u64>,
-    keys: &[usize],
-    values: &Slots<'_, '_>,
-) -> Result<(), AllocError>
+fn pin_keys(pinned: &mut Vec<u64>, keys: &[usize], values: &Slots<'_, '_>) -> Result<(), AllocError>
     ensures { OnOk result (Pins (λ y. OneOf (λ p. OccursAt y (nth values.now p)) keys.now)
         pinned.old pinned.new) }
 {
@@ -48,7 +43,7 @@ fn pin_keys(
 
 /// Pins what stands in SETs and BAGs among the values of these attributes.
 fn pin_bags(
-    pinned: &mut BTreeSet<u64>,
+    pinned: &mut Vec<u64>,
     slots: &[SlotForm],
     values: &Slots<'_, '_>,
 ) -> Result<(), AllocError>
@@ -65,7 +60,7 @@ fn pin_bags(
 }
 
 /// Pins an instance, where its form does.
-fn pin_itself(pinned: &mut BTreeSet<u64>, rules: &FormRules, name: u64) -> Result<(), AllocError>
+fn pin_itself(pinned: &mut Vec<u64>, rules: &FormRules, name: u64) -> Result<(), AllocError>
     ensures { OnOk result (Pins (PinnedAt rules.now name) pinned.old pinned.new) }
 {
     if rules.is_pinned {
@@ -76,7 +71,7 @@ fn pin_itself(pinned: &mut BTreeSet<u64>, rules: &FormRules, name: u64) -> Resul
 
 /// Pins what an instance of this form pins, by the rules of its form.
 fn pin_instance(
-    pinned: &mut BTreeSet<u64>,
+    pinned: &mut Vec<u64>,
     form: &Form,
     rules: &FormRules,
     instance: &InstanceRow<'_, '_>,
@@ -91,7 +86,7 @@ fn pin_instance(
 
 /// Pins what an instance pins by the rules of its form, where it has one.
 fn pin_row(
-    pinned: &mut BTreeSet<u64>,
+    pinned: &mut Vec<u64>,
     forms: &[Form],
     rows: &[FormRules],
     instance: &InstanceRow<'_, '_>,
@@ -115,7 +110,7 @@ fn pin_row(
 pub(crate) fn pin_by_forms(
     alloc: Global,
     population: &Population<'_, '_, '_, '_>,
-    pinned: &mut BTreeSet<u64>,
+    pinned: &mut Vec<u64>,
     rules: &RuleTables<'_>,
     chosen: &Chosen,
 ) -> Result<(), AllocError>

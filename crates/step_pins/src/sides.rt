@@ -11,12 +11,11 @@ ghost use Rattle.step_pins.specs.Sides.{IsOnSide, IsOnSideOf};
 
 use crate::pinned_names::{pin, pin_all};
 use std::alloc::{AllocError, Global};
-use std::collections::BTreeSet;
 use step_extent::extents::Extents;
 use step_extent::inverses::{numbers_by_form, row_at};
 
 /// Pins an instance and those that an inverse attribute of it holds, where it holds any.
-fn pin_side(pinned: &mut BTreeSet<u64>, name: u64, held: &[u64]) -> Result<(), AllocError>
+fn pin_side(pinned: &mut Vec<u64>, name: u64, held: &[u64]) -> Result<(), AllocError>
     ensures { OnOk result (Pins (IsOnSide name held.now) pinned.old pinned.new) }
 {
     if held.is_empty() {
@@ -29,7 +28,7 @@ fn pin_side(pinned: &mut BTreeSet<u64>, name: u64, held: &[u64]) -> Result<(), A
 /// The same for the inverse attributes of these numbers.
 fn pin_sides_of(
     extents: &Extents<'_, '_, '_, '_, '_>,
-    pinned: &mut BTreeSet<u64>,
+    pinned: &mut Vec<u64>,
     name: u64,
     numbers: &[usize],
 ) -> Result<(), AllocError>
@@ -48,7 +47,7 @@ fn pin_sides_of(
 pub(crate) fn pin_sides(
     alloc: Global,
     extents: &Extents<'_, '_, '_, '_, '_>,
-    pinned: &mut BTreeSet<u64>,
+    pinned: &mut Vec<u64>,
 ) -> Result<(), AllocError>
     requires numbered { AreNumbered
         (the_schema extents.now.population.now.types.now.names) extents.now.rules.now }

@@ -6,13 +6,12 @@ ghost use Rattle.step_pins.specs.Pinning.{Pins};
 
 use crate::pinned_names::pin;
 use std::alloc::AllocError;
-use std::collections::BTreeSet;
 use step_values::slot::{Node, Slot, Slots};
 
 /// Pins the instances that a value refers to, at any depth. `AllocError` comes where memory runs
 /// out.
 #[cycle(targets)]
-pub fn pin_targets(pinned: &mut BTreeSet<u64>, value: &Slot<'_, '_>) -> Result<(), AllocError>
+pub fn pin_targets(pinned: &mut Vec<u64>, value: &Slot<'_, '_>) -> Result<(), AllocError>
     ensures { OnOk result (Pins (λ y. Occurs y value.now) pinned.old pinned.new) }
 {
     match value.node() {
@@ -26,7 +25,7 @@ pub fn pin_targets(pinned: &mut BTreeSet<u64>, value: &Slot<'_, '_>) -> Result<(
 
 /// Pins the instances that one of these values refers to, at any depth. `AllocError` comes where memory runs out.
 #[cycle(targets)]
-pub fn pin_each_target(pinned: &mut BTreeSet<u64>, values: &Slots<'_, '_>) -> Result<(), AllocError>
+pub fn pin_each_target(pinned: &mut Vec<u64>, values: &Slots<'_, '_>) -> Result<(), AllocError>
     ensures { OnOk result (Pins (λ y. OccursIn y values.now) pinned.old pinned.new) }
 {
     for i in 0..values.len() {

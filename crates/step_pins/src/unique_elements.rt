@@ -13,9 +13,9 @@ ghost use Rattle.step_pins.specs.Gathering.{Gathers};
 ghost use Rattle.step_pins.specs.Elements.{Asks};
 ghost use Rattle.step_pins.specs.Slots.{slot_seen, HaveNumbers, HasUniqueAt};
 
+use crate::gathered::Gathered;
 use crate::slots::{UniqueSlot, slots_at, slots_by_form};
 use crate::unique_lists::gather_in_value;
-use crate::weak_pins::WeakPins;
 use population_layouts::tables::SchemaTables;
 use population_typed::population::Population;
 use schema_bases::lookup::Bases;
@@ -26,7 +26,7 @@ use step_values::slot::Slots;
 /// there is one, and pins what stands inside them.
 fn gather_at(
     bases: &Bases<'_, '_, '_>,
-    weak: &mut WeakPins,
+    weak: &mut Gathered,
     slot: UniqueSlot,
     values: &Slots<'_, '_>,
 ) -> Result<(), AllocError>
@@ -45,7 +45,7 @@ fn gather_at(
 /// .. of an instance with these values.
 fn gather_in_slots(
     bases: &Bases<'_, '_, '_>,
-    weak: &mut WeakPins,
+    weak: &mut Gathered,
     slots: &[UniqueSlot],
     values: &Slots<'_, '_>,
 ) -> Result<(), AllocError>
@@ -68,7 +68,7 @@ fn gather_in_slots(
 pub(crate) fn gather_elements(
     alloc: Global,
     population: &Population<'_, '_, '_, '_>,
-    weak: &mut WeakPins,
+    weak: &mut Gathered,
 ) -> Result<(), AllocError>
     requires made { IsMade population.now.types.now }
     ensures { (d : Domain) (en : Entities) → IsDomain (the_schema population.now.types.now.names) d

@@ -12,8 +12,8 @@ ghost use Rattle.step_pins.specs.Elements.{Asks};
 ghost use Rattle.step_pins.specs.Holding.{IsUnique, HasInElements};
 
 use crate::elements::pin_inside;
+use crate::gathered::Gathered;
 use crate::holding::{is_unique, may_hold};
-use crate::weak_pins::WeakPins;
 use population_fits::inside::item;
 use schema_bases::base::Base;
 use schema_bases::lookup::Bases;
@@ -21,16 +21,16 @@ use std::alloc::AllocError;
 use step_values::slot::{Node, Slot, Slots};
 
 /// Adds a list of these elements, and pins what stands inside them.
-fn gather(weak: &mut WeakPins, values: &Slots<'_, '_>) -> Result<(), AllocError>
+fn gather(weak: &mut Gathered, values: &Slots<'_, '_>) -> Result<(), AllocError>
     ensures { OnOk result (Gathers (λ q. Asks q values.now) weak.old weak.new) }
 {
     weak.lists.add(values)?;
-    pin_inside(&mut weak.pins.names, values)
+    pin_inside(&mut weak.names, values)
 }
 
 /// .. of a LIST or ARRAY that is one OF UNIQUE; of another one nothing.
 fn gather_if_unique(
-    weak: &mut WeakPins,
+    weak: &mut Gathered,
     base: Base,
     values: &Slots<'_, '_>,
 ) -> Result<(), AllocError>
@@ -49,7 +49,7 @@ fn gather_if_unique(
 #[cycle(walk)]
 pub(crate) fn gather_in_value(
     bases: &Bases<'_, '_, '_>,
-    weak: &mut WeakPins,
+    weak: &mut Gathered,
     base: Base,
     value: &Slot<'_, '_>,
 ) -> Result<(), AllocError>
@@ -77,7 +77,7 @@ pub(crate) fn gather_in_value(
 #[cycle(walk)]
 fn gather_in_elements(
     bases: &Bases<'_, '_, '_>,
-    weak: &mut WeakPins,
+    weak: &mut Gathered,
     base: Base,
     values: &Slots<'_, '_>,
 ) -> Result<(), AllocError>
@@ -98,7 +98,7 @@ fn gather_in_elements(
 #[cycle(walk)]
 fn gather_in_each(
     bases: &Bases<'_, '_, '_>,
-    weak: &mut WeakPins,
+    weak: &mut Gathered,
     base: Base,
     values: &Slots<'_, '_>,
 ) -> Result<(), AllocError>

@@ -13,15 +13,14 @@ ghost use Rattle.population_typed.specs.Seen.{population_seen};
 ghost use Rattle.step_pins.specs.Lists.{AreUniqueOf};
 ghost use Rattle.step_pins.specs.Pinned.{is_pinned};
 
+use crate::gathered::Gathered;
 use crate::lists::UniqueLists;
-use crate::pins::Pins;
 use crate::rows::pin_by_forms;
 use crate::sides::pin_sides;
 use crate::unique_elements::gather_elements;
 use crate::weak_pins::WeakPins;
 use pin_choices::choice::Chosen;
 use std::alloc::{AllocError, Global};
-use std::collections::BTreeSet;
 use step_extent::extents::Extents;
 
 /// The pins of a population, by the weak rules: an instance is pinned where
@@ -32,8 +31,8 @@ use step_extent::extents::Extents;
 ///   the rule names, be it checked or set aside;
 /// - an inverse attribute of an instance holds it, or one of its own holds an instance.
 ///
-/// It goes over the instances and their values, and takes time by the logarithm of the number of
-/// pins. `AllocError` comes where memory runs out.
+/// It goes over the instances and their values, and notes each name as often as something pins it;
+/// all of these are sorted at the end. `AllocError` comes where memory runs out.
 pub fn pins(
     alloc: Global,
     extents: &Extents<'_, '_, '_, '_, '_>,
@@ -56,14 +55,12 @@ pub fn pins(
         (population_seen extents.now.population.now) t.lists) }
 {
     let population = extents.population;
-    let mut names = BTreeSet::new(alloc);
+    let mut names = Vec::new(alloc);
     pin_by_forms(alloc, population, &mut names, extents.rules, chosen)?;
     pin_sides(alloc, extents, &mut names)?;
     let lists = UniqueLists::new(alloc);
-    let mut weak = WeakPins {
-        pins: Pins { names },
-        lists,
-    };
+    let mut weak = Gathered { names, lists };
     gather_elements(alloc, population, &mut weak)?;
-    Ok(weak)
+    let pins = weak.into_pins(alloc)?;
+    Ok(pins)
 }

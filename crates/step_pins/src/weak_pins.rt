@@ -18,7 +18,6 @@ use crate::classes::{Classes, pin_classmates};
 use crate::lists::UniqueLists;
 use crate::pins::Pins;
 use std::alloc::{AllocError, Global};
-use std::collections::BTreeSet;
 use std::hash::RandomState;
 use step_equal::table::Table;
 
@@ -34,7 +33,7 @@ pub struct WeakPins {
 /// Pins, of each of these lists, the instances that have another one of their class in it.
 fn pin_in_lists(
     alloc: Global,
-    pinned: &mut BTreeSet<u64>,
+    pinned: &mut Vec<u64>,
     classes: &Classes<'_>,
     lists: &UniqueLists,
 ) -> Result<(), AllocError>
@@ -52,7 +51,7 @@ fn pin_in_lists(
 fn pin_by_table(
     alloc: Global,
     keys: RandomState,
-    pinned: &mut BTreeSet<u64>,
+    pinned: &mut Vec<u64>,
     lists: &UniqueLists,
     table: &Table,
 ) -> Result<(), AllocError>
@@ -95,8 +94,10 @@ impl WeakPins {
             ↔ (IsTrue (is_pinned self.now.pins y) ⊎ OneOf (StandsBesideItsClass s d en
             (shares (table_of table.now) table.now.rounds) y) is)) }
     {
+        let mut beside = Vec::new(alloc);
+        pin_by_table(alloc, keys, &mut beside, &self.lists, table)?;
         let mut names = self.pins.names.clone()?;
-        pin_by_table(alloc, keys, &mut names, &self.lists, table)?;
+        names.extend(beside)?;
         Ok(Pins { names })
     }
 
@@ -122,9 +123,11 @@ impl WeakPins {
             ↔ ((y : ℕ) → is_pinned t.pins y ≡ is_pinned self.pins y)) }
     {
         let WeakPins { pins, lists } = self;
+        let mut beside = Vec::new(alloc);
+        pin_by_table(alloc, keys, &mut beside, &lists, table)?;
         let mut names = pins.names;
         let count = names.len();
-        pin_by_table(alloc, keys, &mut names, &lists, table)?;
+        names.extend(beside)?;
         let are_weak = names.len() == count;
         Ok(GentlePins {
             pins: Pins { names },

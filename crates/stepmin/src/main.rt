@@ -4,12 +4,15 @@
 //! with the same words tells whether a certificate proves an output.
 #![tactic(auto)]
 
-use command_line::usage::{read_words, unread_words};
+use command_line::merging::ShrinkRequest;
+use command_line::usage::{Refusal, Request, read_words, unread_words};
 use commands::command::{refuse, refuse_to_read, run_command};
 use devices::counted::Counted;
 use devices::device::Sink;
 use file_store::folder::Folder;
+use file_store::same::lead_to_one;
 use files::fault::print_line;
+use std::alloc::Global;
 use std::env::Env;
 use std::hash::RandomState;
 use std::io;
@@ -45,6 +48,42 @@ fn settled<R: Files, E: Sink>(store: Folder<'_, R>, status: u8, err: &mut E) -> 
     }
 }
 
+// What is said of words by which `shrink` would lose what it reads, or one of the files that it writes: paths that lead
+// to one file, though their texts differ. OUT may lead to FILE.
+fn clash<R: Files>(alloc: Global, rt: &R, asked: &Request<'_>) -> Option<&'static str> {
+    let Request::Shrink(asked) = *asked else {
+        return None;
+    };
+    let ShrinkRequest {
+        schema,
+        file,
+        output,
+        certificate,
+        ..
+    } = asked;
+    if lead_to_one(alloc, rt, output, certificate) {
+        return Some("error: OUT and CERT are the same file\n");
+    }
+    if lead_to_one(alloc, rt, schema, output) {
+        return Some("error: SCHEMA and OUT are the same file\n");
+    }
+    if lead_to_one(alloc, rt, schema, certificate) {
+        return Some("error: SCHEMA and CERT are the same file\n");
+    }
+    if lead_to_one(alloc, rt, file, certificate) {
+        return Some("error: FILE and CERT are the same file\n");
+    }
+    None
+}
+
+// Why the words ask for nothing, where their paths clash.
+fn clashing(alloc: Global, text: &str) -> Refusal {
+    match String::from_str(alloc, text) {
+        Ok(text) => Refusal::Usage(text),
+        Err(_) => Refusal::Memory,
+    }
+}
+
 // Does what is asked for by these words, and answers the status. The system is asked for the keys by which names are
 // hashed only where there is a file to be read.
 fn run<R: AllocGlobal + RandomSource + Files, O: Sink, E: Sink>(
@@ -53,8 +92,12 @@ fn run<R: AllocGlobal + RandomSource + Files, O: Sink, E: Sink>(
     out: &mut O,
     err: &mut E,
 ) -> u8 {
-    if let Err(refusal) = read_words(rt.alloc(), words) {
-        return refuse(refusal, out, err);
+    let asked = match read_words(rt.alloc(), words) {
+        Ok(asked) => asked,
+        Err(refusal) => return refuse(refusal, out, err),
+    };
+    if let Some(text) = clash(rt.alloc(), rt, &asked) {
+        return refuse(clashing(rt.alloc(), text), out, err);
     }
     let Ok(keys) = RandomState::new(rt) else {
         return refuse_to_read(err);

@@ -7,7 +7,8 @@ use Rattle.merge_tables.proofs.tables.last_table.Goals as goal
 
 pub refine_last-requires : goal.refine_last-requires
 refine_last-requires c =
-    subst (λ names. AreSignatures c.args.rows.now (maps.is_pinned names) c.args.signatures) (sym c.names.ensures) c.requires
+    subst (λ names. AreSignatures c.args.rows.now (maps.is_pinned names) c.args.signatures)
+    (sym c.names.ensures) c.requires
 
 pub returns : goal.returns
 returns c =

@@ -7,7 +7,8 @@ use Rattle.merge_tables.proofs.tables.standard_table.Goals as goal
 
 pub refine_by-requires : goal.refine_by-requires
 refine_by-requires c =
-    subst (λ names. AreSignatures c.args.rows.now (maps.is_pinned names) c.args.signatures.now) (sym c.names.ensures) c.requires
+    subst (λ names. AreSignatures c.args.rows.now (maps.is_pinned names) c.args.signatures.now)
+    (sym c.names.ensures) c.requires
 
 pub returns : goal.returns
 returns c =

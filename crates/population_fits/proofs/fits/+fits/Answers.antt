@@ -70,6 +70,6 @@ misfit_list-returns t c d h =
     (sym c.is_some.ensures ∙ c.if-is_some.false) c.if-not-aggregate.false c.in_ok-distinct.distinct
     (c.in_ok-distinct.ensures d h)
 
-pub misfit_node-misfit_reference-requires-clause-led : goal.misfit_node-misfit_reference-requires-clause-led
-misfit_node-misfit_reference-requires-clause-led t c =
+pub misfit_node-misfit_reference-found-requires-clause-led : goal.misfit_node-misfit_reference-found-requires-clause-led
+misfit_node-misfit_reference-found-requires-clause-led t c =
     c.target.ensures.numbered (the_schema c.args.bases.now.names.now) c.requires.targets

@@ -1,9 +1,9 @@
-use Rattle.std.proofs.Common.{◌≡◌, true, false, refl, sym, ap, ◌∙◌, subst, arith}
+use Rattle.std.proofs.Common.{◌≡◌, true, false, refl, sym, ◌∙◌, subst}
 use Rattle.std.specs.Prelude.{IfOk, Ok, Err, Result}
 use Rattle.std.proofs.lemmas.Bool.{false≢true}
 use Rattle.step_equal.specs.Rows.{Row}
 use Rattle.step_equal.specs.Views.{row_seen}
-use Rattle.row_shapes.specs.ComputedShapes.{IsShapeNumber, IsShapeOf}
+use Rattle.row_shapes.specs.ComputedShapes.{IsShapeOf}
 use Rattle.row_shapes.proofs.Naming.{once}
 use Rattle.row_shapes.proofs.shapes.number_of.Goals as goal
 
@@ -13,7 +13,8 @@ returns-then-is_pinned c r at = record {
   of_free = λ free. absurd (false≢true (sym free ∙ c.if-is_pinned.true));
 }
 
-both : {X Y : Type 0} (r : Result X Y) (P Q R : X → Type 0) → ((x : X) → P x → Q x → R x) → IfOk r P → IfOk r Q → IfOk r R
+both : {X Y : Type 0} (r : Result X Y) (P Q R : X → Type 0) → ((x : X) → P x → Q x → R x) → IfOk r P → IfOk r Q
+    → IfOk r R
 both (Ok x) P Q R f p q = f x p q
 both (Err y) P Q R f p q = tt
 

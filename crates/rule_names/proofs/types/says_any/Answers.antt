@@ -3,7 +3,8 @@ use Rattle.schema_names.specs.Numbers.{HasNumber}
 use Rattle.schema_names.specs.Schemas.{the_schema}
 use Rattle.schema_bases.specs.Seen.{name_at}
 use Rattle.express_logic.specs.Views.{text_of}
-use Rattle.rule_names.proofs.Saying.{every_get, none_more, one_more, none_left}
+use Rattle.schema_sources.proofs.Members.{every_get}
+use Rattle.rule_names.proofs.Saying.{none_more, one_more, none_left}
 use Rattle.rule_names.proofs.types.says_any.Goals as goal
 
 pub says_type-requires : goal.says_type-requires

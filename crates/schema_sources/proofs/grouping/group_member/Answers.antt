@@ -1,34 +1,41 @@
-use Rattle.std.proofs.Common.{◌∙◌, sym}
+use Rattle.std.proofs.Common.{◌∙◌, ℕ, sym, subst}
 use Rattle.express_syntax.specs.ExpressionViews.{capitals}
+use Rattle.schema_names.specs.Numbers.{HasNumber}
 use Rattle.schema_names.specs.Schemas.{the_schema}
-use Rattle.schema_sources.proofs.Membership.{no-name, not-of-it, own-member, not-own, inherited-member}
+use Rattle.schema_bases.specs.Seen.{name_at}
+use Rattle.schema_sources.proofs.FirstNamed.{first-is, first-none}
+use Rattle.schema_sources.proofs.Members.{every-has}
+use Rattle.schema_sources.proofs.Membership.{not-here, own-member, not-own, inherited-member}
 use Rattle.schema_sources.proofs.grouping.group_member.Goals as goal
 
 pub returns-in_default : goal.returns-in_default
 returns-in_default c =
-    no-name (the_schema c.args.schema.now.names) c.args.types.now c.requires.types (capitals c.args.name)
-    (capitals c.args.entity) (sym c.in_default.ensures)
-
-pub returns-then-not-is_among : goal.returns-then-not-is_among
-returns-then-not-is_among c =
-    not-of-it (the_schema c.args.schema.now.names) c.args.types.now c.requires.types (capitals c.args.name)
-    (capitals c.args.entity) c.in-Some.entity (sym c.in-Some.ensures)
-    (sym c.is_among.ensures ∙ c.if-not-is_among.true)
+    let s = the_schema c.args.schema.now.names in
+    let e = capitals c.args.entity in
+    not-here s c.args.types.now c.requires.types (capitals c.args.name) e
+    (first-none s e c.args.types.now (sym c.in_default.ensures))
 
 pub returns-then-declares_at : goal.returns-then-declares_at
 returns-then-declares_at c =
-    own-member (the_schema c.args.schema.now.names) c.args.types.now c.requires.types (capitals c.args.name)
-    (capitals c.args.entity) c.in-Some.entity (sym c.in-Some.ensures)
-    (sym c.is_among.ensures ∙ c.if-not-is_among.false) (sym c.declares_at.ensures ∙ c.if-declares_at.true)
+    let s = the_schema c.args.schema.now.names in
+    let e = capitals c.args.entity in
+    let i = c.in-Some.entity in
+    let (m, is) = first-is s e c.args.types.now i (sym c.in-Some.ensures) in
+    let k = subst (λ n. HasNumber s n i) is
+    (every-has (λ (x : ℕ). HasNumber s (name_at s x) x) c.args.types.now i c.requires.types m) in
+    own-member s c.args.types.now c.requires.types (capitals c.args.name) e i k m
+    (sym c.declares_at.ensures ∙ c.if-declares_at.true)
 
 pub returns : goal.returns
 returns c =
     let s = the_schema c.args.schema.now.names in
     let e = capitals c.args.entity in
     let a = capitals c.args.name in
-    let k = sym c.in-Some.ensures in
+    let i = c.in-Some.entity in
+    let (m, is) = first-is s e c.args.types.now i (sym c.in-Some.ensures) in
+    let k = subst (λ n. HasNumber s n i) is
+    (every-has (λ (x : ℕ). HasNumber s (name_at s x) x) c.args.types.now i c.requires.types m) in
     let free =
-    not-own s c.args.types.now c.requires.types a e c.in-Some.entity k
-    (sym c.declares_at.ensures ∙ c.if-declares_at.false) in
-    inherited-member s c.args.types.now c.requires.types a e c.in-Some.entity k
-    (sym c.is_among.ensures ∙ c.if-not-is_among.false) free c.inherited.result (c.inherited.ensures e k free)
+    not-own s c.args.types.now c.requires.types a e i k (sym c.declares_at.ensures ∙ c.if-declares_at.false) in
+    inherited-member s c.args.types.now c.requires.types a e i k m free c.inherited.result
+    (c.inherited.ensures e k free)

@@ -19,12 +19,13 @@ pin_in_bags_of_each-pin_in_bags-requires t c =
 
 pub pin_in_bags_of_each-loop-i-preserved : goal.pin_in_bags_of_each-loop-i-preserved
 pin_in_bags_of_each-loop-i-preserved t c =
-    next InBag InBagOf (λ y h. h) (λ y v vs. ((λ h. h), (λ h. h))) c.args.values.now c.loop-i.i _ c.at.result
-    c.loop-i.pinned _ c.at.ensures c.loop-i.invariant c.in_ok-pin_in_bags.ensures
+    next InBag InBagOf (λ y h. h) (λ y v vs. ((λ h. h), (λ h. h))) c.args.values.now c.loop-i.i
+    c.args.pinned.now c.at.result c.loop-i.pinned c.pin_in_bags.new.pinned c.at.ensures c.loop-i.invariant
+    c.in_ok-pin_in_bags.ensures
 
 pub pin_in_bags_of_each-returns : goal.pin_in_bags_of_each-returns
 pin_in_bags_of_each-returns t c =
     let past = c.loop-i-test.false in
     let end = c.len-i-end.ensures in
-    ends InBag InBagOf (λ y h. h) (λ y v vs. ((λ h. h), (λ h. h))) c.args.values.now c.loop-i.i _ c.loop-i.pinned
-    (omega (arith, past, end)) c.loop-i.invariant
+    ends InBag InBagOf (λ y h. h) (λ y v vs. ((λ h. h), (λ h. h))) c.args.values.now c.loop-i.i
+    c.args.pinned.now c.loop-i.pinned (omega (arith, past, end)) c.loop-i.invariant

@@ -9,8 +9,9 @@ returns-in_default c s =
 
 pub loop-i-preserved : goal.loop-i-preserved
 loop-i-preserved c s =
-    next s c.args.slots.now c.args.values.now c.args.pinned.now c.loop-i.i c.in-Some.value c.loop-i.pinned _
-    c.loop-i-test.true (sym c.item.ensures ∙ c.in-Some.is) (c.loop-i.invariant s) c.in_ok-pin_in_bags.ensures
+    next s c.args.slots.now c.args.values.now c.args.pinned.now c.loop-i.i c.in-Some.value c.loop-i.pinned
+    c.pin_in_bags.new.pinned c.loop-i-test.true (sym c.item.ensures ∙ c.in-Some.is) (c.loop-i.invariant s)
+    c.in_ok-pin_in_bags.ensures
 
 pub returns : goal.returns
 returns c s =

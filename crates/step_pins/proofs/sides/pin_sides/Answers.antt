@@ -40,7 +40,7 @@ loop-row-preserved c =
     (λ y. row-is s is all y x.name c.instance-instance.ensures.section x.values c.requires.numbered.inverses forms
     (kept p).numbered x.form)
     (subst (λ ns. Pins (IsOnSideOf s is all x.name ns) mid new) row c.in_ok-pin_sides_of.ensures) in
-    next (λ y z. OneOf (IsSideOf is y z) inverses) is c.loop-row.row c.args.pinned.now seen c.loop-row.pinned _
+    next (λ y z. OneOf (IsSideOf is y z) inverses) is c.loop-row.row c.args.pinned.now seen c.loop-row.pinned new
     c.instance-instance.ensures.seen c.loop-row.invariant one
 
 pub returns : goal.returns

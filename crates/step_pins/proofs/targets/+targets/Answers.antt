@@ -12,12 +12,13 @@ pin_each_target-pin_targets-requires t c =
 
 pub pin_each_target-loop-i-preserved : goal.pin_each_target-loop-i-preserved
 pin_each_target-loop-i-preserved t c =
-    next Occurs OccursIn (λ y h. h) (λ y v vs. ((λ h. h), (λ h. h))) c.args.values.now c.loop-i.i _ c.at.result
-    c.loop-i.pinned _ c.at.ensures c.loop-i.invariant c.in_ok-pin_targets.ensures
+    next Occurs OccursIn (λ y h. h) (λ y v vs. ((λ h. h), (λ h. h))) c.args.values.now c.loop-i.i
+    c.args.pinned.now c.at.result c.loop-i.pinned c.pin_targets.new.pinned c.at.ensures c.loop-i.invariant
+    c.in_ok-pin_targets.ensures
 
 pub pin_each_target-returns : goal.pin_each_target-returns
 pin_each_target-returns t c =
     let past = c.loop-i-test.false in
     let end = c.len-i-end.ensures in
-    ends Occurs OccursIn (λ y h. h) (λ y v vs. ((λ h. h), (λ h. h))) c.args.values.now c.loop-i.i _ c.loop-i.pinned
-    (omega (arith, past, end)) c.loop-i.invariant
+    ends Occurs OccursIn (λ y h. h) (λ y v vs. ((λ h. h), (λ h. h))) c.args.values.now c.loop-i.i
+    c.args.pinned.now c.loop-i.pinned (omega (arith, past, end)) c.loop-i.invariant

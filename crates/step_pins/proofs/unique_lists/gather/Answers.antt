@@ -6,5 +6,5 @@ pub returns : goal.returns
 returns c =
     on_ok_weaker c.pin_inside.result
     (λ p. gathers-list c.args.values.now c.args.weak.now
-    (record { pins = record { names = c.pin_inside.new.pinned }; lists = c.add.new.self }) c.in_ok-add.ensures p)
+    (record { names = c.pin_inside.new.pinned; lists = c.add.new.self }) c.in_ok-add.ensures p)
     c.pin_inside.ensures

@@ -1,5 +1,5 @@
-use Rattle.std.proofs.Common.{ℕ}
-use Rattle.std.specs.Prelude.{◌⊎◌}
+use Rattle.std.proofs.Common.{ℕ, sym, subst}
+use Rattle.std.specs.Prelude.{IsTrue, ◌⊎◌, ◌↔◌}
 use Rattle.schema_semantics.specs.Names.{OneOf}
 use Rattle.conformance.specs.Pins.{IsInverseSide, StandsInsideUnique, StandsBesideItsClass, IsWeaklyPinned}
 use Rattle.schema_names.specs.Schemas.{the_schema}
@@ -26,18 +26,21 @@ returns-clause-pins c d en names domain are chosen =
     let old = c.new-names.result in
     let formed = c.pin_by_forms.new.pinned in
     let sided = c.pin_sides.new.pinned in
-    let new = c.gather_elements.new.weak.pins.names in
-    from-none (IsWeaklyPinned s d en rules names is) old new c.new-names.ensures.empty
+    let new = c.gather_elements.new.weak.names in
+    λ y. subst (λ b. IsTrue b ↔ IsWeaklyPinned s d en rules names is y) (sym (c.in_ok-pins.ensures.names y))
+    (from-none (IsWeaklyPinned s d en rules names is) old new c.new-names.ensures.items
     (pins-alike (λ y. (ByForm y ⊎ Side y) ⊎ Inside y) (IsWeaklyPinned s d en rules names is) old new
     (together s d en rules names is (names-distinct p))
     (pins-both (λ y. ByForm y ⊎ Side y) Inside old sided new
     (pins-both ByForm Side old formed sided (c.in_ok-pin_by_forms.ensures en names are chosen) c.in_ok-pin_sides.ensures)
-    (λ y. c.in_ok-gather_elements.ensures d en domain are (inside y))))
+    (λ y. c.in_ok-gather_elements.ensures d en domain are (inside y)))) y)
 
 pub returns-clause-lists : goal.returns-clause-lists
 returns-clause-lists c d en domain are E y =
     let p = c.args.extents.now.population.now in
     let s = the_schema p.types.now.names in
-    from-empty (StandsBeside E y) (OneOf (StandsBeside E y) c.gather_elements.new.weak.lists)
+    subst (λ ls. OneOf (StandsBeside E y) ls ↔ OneOf (StandsBesideItsClass s d en E y) (population_seen p))
+    (sym c.in_ok-pins.ensures.lists)
+    (from-empty (StandsBeside E y) (OneOf (StandsBeside E y) c.gather_elements.new.weak.lists)
     (OneOf (StandsBesideItsClass s d en E y) (population_seen p)) c.new-lists.result c.new-lists.ensures
-    (c.in_ok-gather_elements.ensures d en domain are (beside E y))
+    (c.in_ok-gather_elements.ensures d en domain are (beside E y)))
