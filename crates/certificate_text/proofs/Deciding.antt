@@ -6,13 +6,13 @@ use Rattle.std.specs.Str.Parse.{digits_value}
 use Rattle.std.proofs.lemmas.Bool.{false≢true, cases_Bool, cases_eq, cases_lt}
 use Rattle.std.proofs.lemmas.Option.{slice_get-get_or}
 use Rattle.std.proofs.lemmas.Fmt.{decimal_injective}
-use Rattle.step_equal.specs.Tables.{Origin, start, split, Table, began}
-use Rattle.step_equal.specs.Standard.{IsParent}
+use Rattle.value_equality.specs.Tables.{Origin, start, split, Table, began}
+use Rattle.value_equality.specs.Standard.{IsParent}
 use Rattle.step_literals.specs.Bytes.{Each, Stops, is_digit}
 use Rattle.step_literals.proofs.Choices.{Decided}
 use Rattle.step_literals.proofs.Runs.{run_at_prefix}
 use Rattle.certificate_text.specs.Texts.{rounds_line, origin_text, class_line, member_line}
-use Rattle.certificate_text.specs.ComputedParts.{IsShort, Fits, with_class, with_member, with_rounds, AddsClass, AddsMember, Adds, Reading, Takes}
+use Rattle.certificate_text.specs.steps.ComputedParts.{IsShort, Fits, with_class, with_member, with_rounds, AddsClass, AddsMember, Adds, Reading, Takes}
 use Rattle.certificate_text.specs.declared.reader.Part.{Part}
 use Rattle.certificate_text.specs.declared.reader.Part.TheVariants.{Opening, Heading, FirstRounds, First, SecondRounds, Second, Ended}
 use Rattle.certificate_text.proofs.NumberTexts.{all_digits, value_of, written, no_zero_first, some_digits}

@@ -3,12 +3,12 @@ use Rattle.std.proofs.Common.{◌≡◌, ℕ, zero, suc, ◌+◌, ◌≤◌, tru
 use Rattle.std.specs.Prelude.{codes, ◌==◌}
 use Rattle.std.proofs.lemmas.Bool.{cases_eq}
 use Rattle.std.proofs.lemmas.Bool.Decides.{nat_tests}
-use Rattle.step_equal.specs.Tables.{Table}
+use Rattle.value_equality.specs.Tables.{Table}
 use Rattle.step_literals.proofs.Choices.{Decided}
 use Rattle.certificate_text.specs.Texts.{IsCertificate}
-use Rattle.certificate_text.specs.Faults.{IsLine, IsBadLine, IsFaultOf}
+use Rattle.certificate_text.specs.Faults.{IsLine, IsBadLine, IsCertificateFaultOf}
 use Rattle.certificate_text.specs.Laws.{EachTextIsAnswered}
-use Rattle.certificate_text.specs.ComputedParts.{Reading}
+use Rattle.certificate_text.specs.steps.ComputedParts.{Reading}
 use Rattle.certificate_text.specs.declared.fault.CertFault.{CertFault}
 use Rattle.certificate_text.specs.declared.fault.CertFault.TheVariants.{OldVersion, BadText, Memory}
 use Rattle.certificate_text.specs.declared.reader.Part.{Part}
@@ -85,7 +85,7 @@ pub each_text : EachTextIsAnswered
 each_text text = by (behind_or_not (codes "STEPCERT 1\n") text) (answer text)
   where
     by : Decided (Behind (codes "STEPCERT 1\n") text) → Answer text → ((s : Table) × (t : Table) × IsCertificate text s t)
-        ⊎ ((e : CertFault) × (e ≡ Memory → ⊥) × IsFaultOf text e)
+        ⊎ ((e : CertFault) × (e ≡ Memory → ⊥) × IsCertificateFaultOf text e)
     by (inl q) a = inr (OldVersion, (λ e. absurd (cc)), q)
     by (inr n) (inl c) = inl c
     by (inr n) (inr b) = inr (BadText b.0, (λ e. absurd (cc)), (n, b.1))

@@ -2,10 +2,10 @@
 use Rattle.std.proofs.Common.{◌≡◌, ℕ, ◌<◌, ◌≤◌, ◌^◌, Bool, true, false, List, length, get_or, MatchBool, inl, inr, refl, sym, ap, ◌∙◌, subst, arith}
 use Rattle.std.specs.Prelude.{codes}
 use Rattle.std.proofs.Common.{slice_get, Some}
-use Rattle.step_equal.specs.Standard.{IsParent}
-use Rattle.step_equal.specs.Tables.{Origin, began, Table}
+use Rattle.value_equality.specs.Standard.{IsParent}
+use Rattle.value_equality.specs.Tables.{Origin, began, Table}
 use Rattle.certificate_text.specs.Texts.{rounds_line}
-use Rattle.certificate_text.specs.ComputedParts.{with_rounds, AddsClass, AddsMember, Adds, Reading, Takes}
+use Rattle.certificate_text.specs.steps.ComputedParts.{with_rounds, AddsClass, AddsMember, Adds, Reading, Takes}
 use Rattle.certificate_text.specs.declared.reader.Part.{Part}
 use Rattle.certificate_text.specs.declared.reader.Part.TheVariants.{FirstRounds, First, SecondRounds, Second}
 
@@ -40,7 +40,7 @@ pub as_member : (t : Table) (l : List ℕ) (b : Bool) (u : Table) → get_or l 0
     → Answers b (AddsMember t l) u → Answers b (Adds t l) u
 as_member t l b u f h = other_sort (AddsMember t l) (Adds t l) b u (λ v a. inr a) (λ v a. member_alone t l v f a) h
 
--- .. and so to what is read
+-- whether a line is taken decides what is read
 taken_first : (s t v : Table) (l : List ℕ) (b : Bool) → (l ≡ codes "table 2" → ⊥) → Answers b (Adds s l) v
     → Answers b (Takes (record { part = First; first = s; second = t }) l) (record { part = First; first = v; second = t })
 taken_first s t v l true never h = inr (v, h, refl)

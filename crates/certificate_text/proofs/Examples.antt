@@ -2,11 +2,11 @@
 use Rattle.std.proofs.Common.{◌≡◌, ℕ, zero, suc, ◌<◌, ◌^◌, List, [], ◌∷◌, ◌++◌, length, get_or, Some, slice_get, refl, ap, subst, arith, inl, inr}
 use Rattle.std.specs.Prelude.{codes, decimal}
 use Rattle.std.specs.Fmt.{digits}
-use Rattle.step_equal.specs.Tables.{Origin, start, split, Table}
-use Rattle.step_equal.specs.Standard.{IsParent}
+use Rattle.value_equality.specs.Tables.{Origin, start, split, Table}
+use Rattle.value_equality.specs.Standard.{IsParent}
 use Rattle.certificate_text.specs.Texts.{origin_text, certificate_text, IsHeld, IsCertificate}
-use Rattle.certificate_text.specs.Faults.{IsBadLine, IsFaultOf}
-use Rattle.certificate_text.specs.ComputedParts.{Fits, Adds, Reading, Takes}
+use Rattle.certificate_text.specs.Faults.{IsBadLine, IsCertificateFaultOf}
+use Rattle.certificate_text.specs.steps.ComputedParts.{Fits, Adds, Reading, Takes}
 use Rattle.certificate_text.specs.declared.fault.CertFault.TheVariants.{OldVersion, BadText}
 use Rattle.certificate_text.specs.declared.reader.Part.TheVariants.{Opening, FirstRounds, First, Second, Ended}
 use Rattle.certificate_text.proofs.NumberTexts.{no_zero_first}
@@ -129,14 +129,14 @@ unfolding digits
 twice_is_read = record { first_held = twice_held; second_held = twice_held; text_is = refl }
 
 -- the old version
-old : IsFaultOf (codes "STEPCERT 1\nrounds 0\nend\n") OldVersion
+old : IsCertificateFaultOf (codes "STEPCERT 1\nrounds 0\nend\n") OldVersion
 old = (codes "rounds 0\nend\n", refl)
 
 abbrev no_table : Table
 no_table = record { rounds = 0; classes = []; members = [] }
 
--- .. whose first line has to be ended
-old_unended : IsFaultOf (codes "STEPCERT 1") (BadText 1)
+-- the first line of the old version has to be ended
+old_unended : IsCertificateFaultOf (codes "STEPCERT 1") (BadText 1)
 old_unended = (
   λ h. absurd (omega (arith, ap length h.1)),
   bad_end (codes "STEPCERT 1") (codes "STEPCERT 1") 1 (record { part = Opening; first = no_table; second = no_table })
@@ -145,7 +145,7 @@ old_unended = (
 )
 
 -- no line at all
-nothing : IsFaultOf [] (BadText 1)
+nothing : IsCertificateFaultOf [] (BadText 1)
 nothing = (
   λ h. absurd (omega (arith, ap length h.1)),
   bad_end [] [] 1 (record { part = Opening; first = no_table; second = no_table })

@@ -1,10 +1,10 @@
 -- What was read is held by a certificate, and how the lines of a table grow.
 use Rattle.std.proofs.Common.{◌≡◌, ℕ, zero, suc, ◌+◌, ◌<◌, ◌^◌, List, [], ◌∷◌, ◌++◌, length, map, slice_get, Some, None, refl, sym, ap, ◌∙◌, subst, arith, ◌⊎◌, inl, inr, append-nil, append_assoc, length-append}
 use Rattle.std.specs.Prelude.{All}
-use Rattle.step_equal.specs.Tables.{Origin, split, Table}
-use Rattle.step_equal.specs.Standard.{IsParent, IsWellFormed}
+use Rattle.value_equality.specs.Tables.{Origin, split, Table}
+use Rattle.value_equality.specs.Standard.{IsParent, IsWellFormed}
 use Rattle.certificate_text.specs.Texts.{rounds_line, class_line, class_lines, member_line, table_lines, IsHeld}
-use Rattle.certificate_text.specs.ComputedParts.{Fits, with_class, with_rounds, AddsClass, AddsMember, Adds}
+use Rattle.certificate_text.specs.steps.ComputedParts.{Fits, with_class, with_rounds, AddsClass, AddsMember, Adds}
 
 some_once : {A : Type 0} (x y : A) → Some x ≡ Some y → x ≡ y
 some_once x y e = cc

@@ -1,13 +1,13 @@
 -- A text, read line by line.
 use Rattle.std.proofs.Common.{◌≡◌, ℕ, suc, ◌+◌, ◌<◌, ◌≤◌, ◌^◌, List, [], ◌∷◌, ◌++◌, length, refl, sym, ap, ◌∙◌, subst, arith, ◌⊎◌, inl, inr, append-nil, append_assoc, length-append}
-use Rattle.step_equal.specs.Tables.{Table}
+use Rattle.value_equality.specs.Tables.{Table}
 use Rattle.std.specs.Prelude.{codes, ◌==◌}
 use Rattle.std.proofs.Common.{take, drop, false, get_or}
 use Rattle.std.proofs.lemmas.Bool.Decides.{nat_tests}
 use Rattle.step_literals.proofs.Found.{Found, at_found, drop_found}
 use Rattle.certificate_text.specs.Texts.{table_lines, certificate_lines, text_of, IsHeld, IsCertificate}
-use Rattle.certificate_text.specs.Faults.{IsOld, IsLine, IsFront, IsBadLine, IsFaultOf}
-use Rattle.certificate_text.specs.ComputedParts.{Reading, Takes, lines_at, lines_of}
+use Rattle.certificate_text.specs.Faults.{IsOld, IsLine, BeginsCertificate, IsBadLine, IsCertificateFaultOf}
+use Rattle.certificate_text.specs.steps.ComputedParts.{Reading, Takes, lines_at, lines_of}
 use Rattle.certificate_text.specs.declared.fault.CertFault.{CertFault}
 use Rattle.certificate_text.specs.declared.fault.CertFault.TheVariants.{OldVersion, BadText, Memory}
 use Rattle.certificate_text.specs.declared.reader.Part.{Part}
@@ -70,7 +70,7 @@ read_on text rest line a b l next r t e =
       count = omega (arith, r.count, more);
     }
 
-has_lines : (lines : List (List ℕ)) → IsFront lines → AreLines lines
+has_lines : (lines : List (List ℕ)) → BeginsCertificate lines → AreLines lines
 has_lines lines f =
     front_lines lines f.more (subst AreLines f.lines_are (certificate_has_lines f.first f.second f.first_held f.second_held))
 
@@ -88,7 +88,7 @@ later_lines s t front more hs ht e = back_lines front more (subst AreLines e (ce
 -- no certificate goes on with a line that isn't taken
 module _ (text rest : List ℕ) (line : ℕ) (a : Reading) (r : Reads text rest line a) (l next : List ℕ)
     (e : rest ≡ l ++ (10 ∷ next)) (unbroken : IsLine l) (never : (u : Reading) → Takes a l u → ⊥) where
-  refused : (k more : List ℕ) → rest ≡ k ++ (10 ∷ more) → IsLine k → IsFront (lines_of a ++ (k ∷ [])) → ⊥
+  refused : (k more : List ℕ) → rest ≡ k ++ (10 ∷ more) → IsLine k → BeginsCertificate (lines_of a ++ (k ∷ [])) → ⊥
   refused k more ke kl f =
       let same : k ≡ l = (line_once k l more next kl unbroken (sym ke ∙ e)).0 in
       let q = continues f.first f.second f.first_held f.second_held a.part a.first a.second r.held k f.more
@@ -120,7 +120,7 @@ module _ (text rest : List ℕ) (line : ℕ) (a : Reading) (r : Reads text rest 
     line_is = r.count;
   }
 
--- .. and none ends with a line that isn't ended, or too early
+-- no certificate ends with a line that isn't ended, or too early
 module _ (text rest : List ℕ) (line : ℕ) (a : Reading) (r : Reads text rest line a) (unbroken : IsLine rest)
     (never : rest ≡ [] → a.part ≡ Ended → ⊥) where
   no_whole : (s t : Table) → IsHeld s → IsHeld t → (more : List (List ℕ)) → certificate_lines s t ≡ lines_of a ++ more
@@ -163,7 +163,7 @@ one_certificate text s t u v a b =
 pub not_old : (text : List ℕ) (s t : Table) → IsCertificate text s t → IsOld text → ⊥
 not_old text s t c old = absurd (omega (arith, ap (λ l. get_or l 9 0) (sym c.text_is ∙ old.1)))
 
-pub no_fault : (text : List ℕ) (s t : Table) (e : CertFault) → IsCertificate text s t → IsFaultOf text e → e ≡ Memory
+pub no_fault : (text : List ℕ) (s t : Table) (e : CertFault) → IsCertificate text s t → IsCertificateFaultOf text e → e ≡ Memory
 no_fault text s t OldVersion c h = absurd (not_old text s t c h)
 no_fault text s t (BadText line) c h = absurd (h.1.unread s t c)
 no_fault text s t Memory c h = refl
@@ -192,8 +192,8 @@ align (x ∷ xs) (y ∷ ys) a b hx hy e =
     ∙ append_assoc y (10 ∷ text_of ys) b) in
     aligned_too x y xs ys a b cut.0 (align xs ys a b hx.1 hy.1 cut.1)
 
-sooner : (front back : List (List ℕ)) (l : List ℕ) (more : List (List ℕ)) → back ≡ front ++ (l ∷ more) → IsFront back
-    → IsFront (front ++ (l ∷ []))
+sooner : (front back : List (List ℕ)) (l : List ℕ) (more : List (List ℕ)) → back ≡ front ++ (l ∷ more) → BeginsCertificate back
+    → BeginsCertificate (front ++ (l ∷ []))
 sooner front back l more e f = record {
   first = f.first;
   second = f.second;

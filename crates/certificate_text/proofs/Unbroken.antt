@@ -4,12 +4,12 @@ use Rattle.std.specs.Prelude.{decimal, ◌==◌, ◌&&◌}
 use Rattle.std.specs.List.{list_all}
 use Rattle.std.proofs.lemmas.Bool.{false≢true}
 use Rattle.std.proofs.lemmas.Bool.Decides.{nat_tests}
-use Rattle.step_equal.specs.Tables.{Origin, start, split, Table}
+use Rattle.value_equality.specs.Tables.{Origin, start, split, Table}
 use Rattle.step_literals.specs.Bytes.{Each, is_digit}
 use Rattle.step_literals.proofs.Runs.{cut_unique}
 use Rattle.certificate_text.specs.Texts.{rounds_line, origin_text, class_line, class_lines, member_line, table_lines, certificate_lines, text_of, IsHeld}
 use Rattle.certificate_text.specs.Faults.{IsLine}
-use Rattle.certificate_text.specs.ComputedParts.{IsShort}
+use Rattle.certificate_text.specs.steps.ComputedParts.{IsShort}
 use Rattle.certificate_text.proofs.Goings.{AreShort, AreMembers}
 use Rattle.certificate_text.proofs.TableGoing.{shorts_of, members_of}
 use Rattle.certificate_text.proofs.NumberTexts.{all_digits}

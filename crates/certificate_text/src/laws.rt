@@ -1,4 +1,4 @@
-//! Laws of the definitions alone.
+//! Laws about the definitions, apart from any code.
 
 ghost use Rattle.certificate_text.specs.Laws.{
   BadLinesAreOne,
@@ -7,12 +7,13 @@ ghost use Rattle.certificate_text.specs.Laws.{
   EachTextIsAnswered,
 };
 
-/// A text is the certificate of one pair of tables at most.
+/// A text is the certificate of at most one pair of tables.
 pub fn certificates_are_one()
     ensures { CertificatesAreOne }
 {}
 
-/// A certificate is of no old version and has no bad line: the one fault at it is want of memory.
+/// A certificate isn't of an old version and has no bad line: its only fault is that memory runs
+/// out.
 pub fn certificates_have_no_fault()
     ensures { CertificatesHaveNoFault }
 {}
@@ -22,7 +23,7 @@ pub fn each_text_is_answered()
     ensures { EachTextIsAnswered }
 {}
 
-/// A text has one first line at most with which no certificate goes on.
+/// A text has at most one first line with which no certificate continues.
 pub fn bad_lines_are_one()
     ensures { BadLinesAreOne }
 {}

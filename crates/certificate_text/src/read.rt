@@ -1,43 +1,45 @@
 //! Reading certificates.
 
 ghost use Rattle.std.specs.Prelude.{◌≡◌, IfOk, IfErr, MatchResult, MatchBool};
-ghost use Rattle.step_equal.specs.TableViews.{table_of};
+ghost use Rattle.value_equality.specs.TableViews.{table_of};
 ghost use Rattle.certificate_text.specs.Texts.{IsCertificate};
-ghost use Rattle.certificate_text.specs.Faults.{IsFaultOf, IsOld};
-ghost use Rattle.certificate_text.specs.ComputedParts.{IsFresh, IsRefusal};
+ghost use Rattle.certificate_text.specs.Faults.{IsCertificateFaultOf, IsOld};
+ghost use Rattle.certificate_text.specs.steps.ComputedParts.{IsFresh, IsRefusal};
 ghost use Rattle.certificate_text.specs.declared.reader.Part.TheVariants.{Opening};
 
 use crate::fault::CertFault;
 use crate::reader::{Part, Reader, take_line};
 use memchr::memchr;
 use std::alloc::{AllocError, Global};
-use step_equal::table::Table;
+use value_equality::table::Table;
 
-/// The lines of a member in both tables, as `#1=C0`, have so many bytes at least.
+/// The least number of bytes of a member's lines, such as `#1=C0`, in both tables.
 const MEMBER_BYTES: usize = 12;
 
-/// The two tables of a certificate, version 2, with their classes and members in the order of their
-/// lines.
+/// Reads a certificate of version 2. Returns its two tables, with their classes and members in the
+/// order of their lines.
 ///
-/// They are well formed: the parent of a class has a lesser number and began before the class, each
-/// class begins by the last round, and the class of each member is there. A name may stand twice
-/// among the members.
+/// The tables are well formed: the parent of a class has a smaller number and began before the
+/// class, each class begins by the last round, and the class of each member exists. A name may
+/// occur twice among the members.
 ///
-/// `members` is how many members each table is expected to have: room for so many is asked for at
-/// once, or for as many as a text of this length has in both tables where these are fewer. There may
-/// be more of them, or fewer, and the answer is the same, but for want of memory.
+/// `members` is the expected number of members of each table, for which room is reserved, as far as
+/// a text of this length can have them. Any other number of members gives the same result, unless
+/// memory runs out. The caller has to check the limit of 2^40 bytes.
 ///
-/// `OldVersion` (C6) comes where the first line is `STEPCERT 1` and a line feed ends it, whatever
-/// follows. Else `BadText` (C1) comes where the text is no certificate: its line, counted from 1, is
-/// the first with which no certificate goes on. `Memory` comes where memory runs out. The limit of
-/// 2^40 bytes is the caller's to test.
+/// # Errors
+///
+/// - `OldVersion` (C6) if the first line is `STEPCERT 1` and a line feed ends it,
+/// - `BadText` (C1) if the text is no certificate otherwise: its line, counted from 1, is the first
+///   with which no certificate continues,
+/// - `Memory` if memory runs out.
 pub fn read_certificate(
     alloc: Global,
     text: &[u8],
     members: usize,
 ) -> Result<(Table, Table), CertFault>
     ensures tables { IfOk result (λ p. IsCertificate text.now (table_of p.0) (table_of p.1)) }
-    ensures fault { IfErr result (IsFaultOf text.now) }
+    ensures fault { IfErr result (IsCertificateFaultOf text.now) }
 {
     if is_old(text) {
         return Err(CertFault::OldVersion);
@@ -52,14 +54,14 @@ pub fn read_certificate(
     Ok((reader.first, reader.second))
 }
 
-/// Whether the first line is that of version 1, and is ended.
+/// Whether the first line is that of version 1, and a line feed ends it.
 fn is_old(text: &[u8]) -> bool
     ensures { MatchBool result (IsOld text.now) (IsOld text.now → ⊥) }
 {
     text.strip_prefix(b"STEPCERT 1\n").is_some()
 }
 
-/// A table of which nothing was read yet, with room for so many members.
+/// Returns a table of which nothing is read yet, with room for this number of members.
 fn empty_table(alloc: Global, members: usize) -> Result<Table, AllocError>
     ensures { IfOk result IsFresh }
 {
@@ -70,7 +72,7 @@ fn empty_table(alloc: Global, members: usize) -> Result<Table, AllocError>
     })
 }
 
-/// Takes all lines of a text.
+/// Reads all lines of a text.
 fn read_lines(reader: &mut Reader, text: &[u8]) -> Result<(), CertFault>
     requires { (reader.old.part ≡ Opening) × IsFresh reader.old.first × IsFresh reader.old.second }
     ensures { MatchResult result

@@ -1,9 +1,9 @@
-//! A certificate, read line by line.
+//! Reading a certificate line by line.
 
 ghost use Rattle.std.specs.Prelude.{◌≡◌, ◌<◌, ◌^◌, ℕ, IfOk, IsTrue, ◌↔◌, MatchBool};
-ghost use Rattle.step_equal.specs.Tables as tables;
-ghost use Rattle.step_equal.specs.TableViews.{origin_of, table_of};
-ghost use Rattle.certificate_text.specs.ComputedParts.{
+ghost use Rattle.value_equality.specs.Tables as tables;
+ghost use Rattle.value_equality.specs.TableViews.{origin_of, table_of};
+ghost use Rattle.certificate_text.specs.steps.ComputedParts.{
   Adds,
   AddsClass,
   AddsMember,
@@ -17,9 +17,9 @@ ghost use Rattle.certificate_text.specs.Texts.{rounds_line};
 
 use crate::lines::{member_of_line, origin_of_line, rounds_of};
 use std::alloc::AllocError;
-use step_equal::table::{Origin, Table};
+use value_equality::table::{Origin, Table};
 
-/// What comes next in a certificate.
+/// The next part of a certificate.
 #[derive(Clone, Copy, Debug, PartialEq, Eq)]
 pub(crate) enum Part {
     /// The line of the version.
@@ -34,11 +34,11 @@ pub(crate) enum Part {
     SecondRounds,
     /// Classes and members of the second table.
     Second,
-    /// Nothing more.
+    /// Nothing follows.
     Ended,
 }
 
-/// How far a certificate was read, with what was read of its tables.
+/// How far a certificate is read, with its tables so far.
 #[derive(Drop)]
 pub(crate) struct Reader {
     pub(crate) part: Part,
@@ -46,10 +46,10 @@ pub(crate) struct Reader {
     pub(crate) second: Table,
 }
 
-/// The most classes that a table has.
+/// The greatest number of classes of a table.
 const MOST_CLASSES: usize = 4_294_967_295;
 
-/// Whether the next class of a table can come from there.
+/// Whether the next class of a table can have this origin.
 fn fits(table: &Table, origin: &Origin) -> bool
     ensures { IsTrue result ↔ Fits (table_of table.now) (origin_of origin.now) }
 {
@@ -66,7 +66,7 @@ fn fits(table: &Table, origin: &Origin) -> bool
     }
 }
 
-/// Adds the class that a line tells, if it tells the next one.
+/// Adds the class of a line. Returns whether the line is that of the next class.
 fn take_class(table: &mut Table, line: &[u8]) -> Result<bool, AllocError>
     ensures { IfOk result (λ b. MatchBool b
         (AddsClass (table_of table.old) line.now (table_of table.new))
@@ -88,7 +88,7 @@ fn take_class(table: &mut Table, line: &[u8]) -> Result<bool, AllocError>
     Ok(true)
 }
 
-/// Adds the member that a line tells, if it tells one.
+/// Adds the member of a line. Returns whether the line is that of a member.
 fn take_member(table: &mut Table, line: &[u8]) -> Result<bool, AllocError>
     ensures { IfOk result (λ b. MatchBool b
         (AddsMember (table_of table.old) line.now (table_of table.new))
@@ -104,7 +104,7 @@ fn take_member(table: &mut Table, line: &[u8]) -> Result<bool, AllocError>
     Ok(true)
 }
 
-/// Adds what a line tells of a table.
+/// Adds the class or the member of a line. Returns whether the line is that of one.
 fn take_entry(table: &mut Table, line: &[u8]) -> Result<bool, AllocError>
     ensures { IfOk result (λ b. MatchBool b
         (Adds (table_of table.old) line.now (table_of table.new))
@@ -123,7 +123,8 @@ fn take_entry(table: &mut Table, line: &[u8]) -> Result<bool, AllocError>
     }
 }
 
-/// Takes the last round of a table and goes on to the next part, if the line tells it.
+/// Reads the last round of a table and moves on to the next part. Returns whether the line has the
+/// round.
 fn take_rounds(part: &mut Part, table: &mut Table, line: &[u8], next: Part) -> bool
     ensures { MatchBool result
         ((k : ℕ) × (k < 2 ^ 32) × (line.now ≡ rounds_line k) × (part.new ≡ next)
@@ -138,7 +139,7 @@ fn take_rounds(part: &mut Part, table: &mut Table, line: &[u8], next: Part) -> b
     true
 }
 
-/// Takes a line that a certificate can go on with; else says false.
+/// Reads a line. Returns whether a certificate can continue with it.
 pub(crate) fn take_line(reader: &mut Reader, line: &[u8]) -> Result<bool, AllocError>
     ensures { IfOk result (λ b. MatchBool b
         (Takes (reading_of reader.old) line.now (reading_of reader.new))
@@ -177,7 +178,7 @@ pub(crate) fn take_line(reader: &mut Reader, line: &[u8]) -> Result<bool, AllocE
     }
 }
 
-/// Goes on to the next part, if the line is the word.
+/// Moves on to the next part, if the line is this word. Returns whether it is.
 fn pass(part: &mut Part, line: &[u8], word: &[u8], next: Part) -> bool
     ensures { MatchBool result
         ((line.now ≡ word.now) × (part.new ≡ next))

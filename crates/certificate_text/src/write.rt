@@ -16,8 +16,8 @@ ghost use Rattle.std.specs.Prelude.{
   decimal,
 };
 ghost use Rattle.devices.specs.Emits.{Emits};
-ghost use Rattle.devices.specs.Prints.{Prints};
-ghost use Rattle.step_equal.specs.TableViews.{table_of, origin_of, member_of};
+ghost use Rattle.devices.specs.steps.Prints.{Prints};
+ghost use Rattle.value_equality.specs.TableViews.{table_of, origin_of, member_of};
 ghost use Rattle.certificate_text.specs.Texts.{
   certificate_text,
   class_line,
@@ -31,19 +31,22 @@ ghost use Rattle.certificate_text.specs.Texts.{
 use devices::device::{Sink, WriteFault};
 use devices::printer::Printer;
 use itoa::write_digits;
-use step_equal::table::{Origin, Table};
+use value_equality::table::{Origin, Table};
 
-/// No line of a class or of a member is longer.
+/// At least the length of every line of a class or of a member.
 const ROOM: usize = 80;
 
-/// Writes the certificate of two tables, version 2: `STEPCERT 2`, `table 1`, the lines of the first,
-/// `table 2`, the lines of the second, `end`, each ended by a line feed. The lines of a table are its
-/// last round, its classes by number and its members in their order, as `rounds 2`, `C1`, `C3=C1@2`
-/// and `#17=C3`. Takes no memory.
+/// Writes the certificate of two tables, version 2: `STEPCERT 2`, `table 1`, the lines of the
+/// first, `table 2`, the lines of the second, `end`, each ended by a line feed. The lines of a
+/// table are its last round, its classes by number and its members in order, as `rounds 2`, `C1`,
+/// `C3=C1@2` and `#17=C3`. It allocates nothing.
 ///
-/// Tables that are well formed, as `read_certificate` gives them, and have 2^32 - 1 classes at most
-/// are read back as they are. Where the sink fails, a front of the text went out, and the fault has
-/// its length.
+/// If both tables are well formed, as those of `read_certificate`, and have at most 2^32 - 1
+/// classes, `read_certificate` reads them back.
+///
+/// # Errors
+///
+/// If the sink fails, a prefix of the text was written, whose length the fault has.
 pub fn write_certificate<S: Sink>(
     first: &Table,
     second: &Table,
@@ -74,7 +77,7 @@ fn print_table<S: Sink>(printer: &mut Printer, out: &mut S, table: &Table)
     print_members(printer, out, &table.members);
 }
 
-/// Prints a line for each class.
+/// Prints one line for each class.
 fn print_classes<S: Sink>(printer: &mut Printer, out: &mut S, classes: &[Origin])
     ensures { Prints S.held S.has_failed out.old out.new printer.old printer.new
         (text_of (class_lines 0 (map origin_of classes.now))) }
@@ -84,7 +87,7 @@ fn print_classes<S: Sink>(printer: &mut Printer, out: &mut S, classes: &[Origin]
     }
 }
 
-/// Puts a byte before what stands in a line from an index on, and answers where it begins then.
+/// Writes a byte into a line before index `at`, and returns the index of that byte.
 fn put_before(line: &mut [u8], at: usize, byte: u8) -> usize
     requires first { 0 < at }
     requires within { at ≤ length line.old }
@@ -95,13 +98,14 @@ fn put_before(line: &mut [u8], at: usize, byte: u8) -> usize
     at - 1
 }
 
-/// Puts where a class comes from before what stands in a line from an index on, and answers where it
-/// begins then.
+/// Writes the origin of a class into a line before index `at`, and returns the index where it
+/// begins.
 fn put_origin(line: &mut [u8], at: usize, origin: &Origin) -> usize
     requires room { 43 ≤ at }
     requires within { at ≤ length line.old }
     ensures start { (at ≤ result + 43) × (result ≤ at) }
-    ensures written { drop result line.new ≡ origin_text (origin_of origin.now) ++ drop at line.old }
+    ensures written { drop result line.new ≡ origin_text (origin_of origin.now)
+        ++ drop at line.old }
 {
     let Origin::Split { parent, round } = *origin else {
         return at;
@@ -113,7 +117,7 @@ fn put_origin(line: &mut [u8], at: usize, origin: &Origin) -> usize
     put_before(line, at, b'=')
 }
 
-/// Prints the line of a class. It is put together from its end.
+/// Prints the line of a class. The line is built from its end.
 fn print_class<S: Sink>(printer: &mut Printer, out: &mut S, number: u64, origin: &Origin)
     ensures { Prints S.held S.has_failed out.old out.new printer.old printer.new
         (class_line number (origin_of origin.now) ++ (10 ∷ [])) }
@@ -126,7 +130,7 @@ fn print_class<S: Sink>(printer: &mut Printer, out: &mut S, number: u64, origin:
     printer.print(out, &line[at..]);
 }
 
-/// Prints a line for each member.
+/// Prints one line for each member.
 fn print_members<S: Sink>(printer: &mut Printer, out: &mut S, members: &[(u64, u32)])
     ensures { Prints S.held S.has_failed out.old out.new printer.old printer.new
         (text_of (map member_line (map member_of members.now))) }
@@ -136,7 +140,7 @@ fn print_members<S: Sink>(printer: &mut Printer, out: &mut S, members: &[(u64, u
     }
 }
 
-/// Prints the line of a member. It is put together from its end.
+/// Prints the line of a member. The line is built from its end.
 fn print_member<S: Sink>(printer: &mut Printer, out: &mut S, member: (u64, u32))
     ensures { Prints S.held S.has_failed out.old out.new printer.old printer.new
         (member_line (member_of member) ++ (10 ∷ [])) }

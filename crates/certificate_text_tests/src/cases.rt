@@ -1,6 +1,6 @@
 //! The cases of all tables.
 
-use crate::{texts, written};
+use crate::{round_trips, texts};
 
 #[test]
 fn texts_are_answered(rt: HostRuntime) {
@@ -9,5 +9,5 @@ fn texts_are_answered(rt: HostRuntime) {
 
 #[test]
 fn tables_are_written_and_read(rt: HostRuntime) {
-    assert!(rt; written::is_right(rt.alloc()));
+    assert!(rt; round_trips::is_right(rt.alloc()));
 }

@@ -4,6 +4,6 @@
 #[cfg(test)]
 mod cases;
 #[cfg(test)]
-mod texts;
+mod round_trips;
 #[cfg(test)]
-mod written;
+mod texts;

@@ -1,4 +1,4 @@
-//! Texts that are certificates, those of the old version, and those with a bad line.
+//! Texts that are certificates, texts of the old version, and texts with a bad line.
 
 use certificate_text::fault::CertFault;
 use certificate_text::read::read_certificate;
@@ -157,8 +157,8 @@ const BAD: &'static [BadText] = &[
     ),
 ];
 
-/// Whether a text has this fault, or is a certificate where it is none, though far more members are expected than it has:
-/// the room that is asked for goes by the text then.
+/// Whether a text has this fault; `None` for a certificate. Far more members are expected than
+/// there are, so memory is requested according to the text.
 fn has(alloc: Global, text: &[u8], fault: Option<CertFault>) -> bool {
     match read_certificate(alloc, text, usize::MAX) {
         Ok(_) => fault.is_none(),
@@ -166,7 +166,7 @@ fn has(alloc: Global, text: &[u8], fault: Option<CertFault>) -> bool {
     }
 }
 
-/// What is tested by the first of these texts that is answered otherwise.
+/// Returns what is tested by the first of these texts with another outcome, if any.
 fn wrong_text(alloc: Global, texts: &[Text], fault: Option<CertFault>) -> Option<&'static str> {
     for (what, text) in texts {
         if !has(alloc, text, fault) {
@@ -176,7 +176,7 @@ fn wrong_text(alloc: Global, texts: &[Text], fault: Option<CertFault>) -> Option
     None
 }
 
-/// What is tested by the first text that is answered by another line.
+/// Returns what is tested by the first text whose first bad line is another one, if any.
 fn wrong_line(alloc: Global) -> Option<&'static str> {
     for (what, text, line) in BAD {
         if !has(alloc, text, Some(CertFault::BadText { line: *line })) {
@@ -186,7 +186,7 @@ fn wrong_line(alloc: Global) -> Option<&'static str> {
     None
 }
 
-/// What is tested by the first text that isn't answered as its table says.
+/// Returns what is tested by the first text with another outcome than its table expects, if any.
 pub(crate) fn wrong_answer(alloc: Global) -> Option<&'static str> {
     wrong_text(alloc, CERTIFICATES, None)
         .or(wrong_text(alloc, OLD, Some(CertFault::OldVersion)))

@@ -11,32 +11,32 @@ use Rattle.express_syntax.specs.declared.fault.FaultKind.TheVariants.{LeftOut}
 use Rattle.express_syntax.specs.declared.fault.LeftOut.TheVariants as left_out
 use Rattle.express_syntax.specs.declared.fault.SchemaFault.{SchemaFault}
 use Rattle.express_syntax.specs.declared.fault.SchemaFault.TheVariants as schemas
-use Rattle.schema_types.specs.Resolving.{IsNameFault}
+use Rattle.schema_types.specs.Resolution.{IsNameFault}
 use Rattle.step_structures.specs.declared.fault.TextFault.{TextFault}
 use Rattle.step_structures.specs.declared.fault.TextFault.TheVariants as texts
 use Rattle.step_structures.specs.Texts.{IsFaultOf}
-use Rattle.step_structures.specs.Trees.{Row, rows_of}
+use Rattle.step_structures.specs.Trees.{ExchangeRow, rows_of}
 use Rattle.step_exchange.specs.Exchanges.{structure}
 use Rattle.step_exchange.specs.declared.structure.Exchange.{Exchange}
 use Rattle.step_exchange.proofs.Named.{names-are}
 use Rattle.files.specs.Faults.{text_fault}
-use Rattle.files.specs.Reads.{IsBeyond}
+use Rattle.files.specs.steps.Reads.{IsBeyond}
 use Rattle.files.specs.declared.read.ReadFault.{ReadFault}
 use Rattle.files.specs.declared.read.ReadFault.TheVariants as reads
 use Rattle.files.specs.declared.fault.Role.{Role}
 use Rattle.files.specs.declared.fault.Role.TheVariants as roles
 use Rattle.files.specs.declared.fault.FileFault.{FileFault}
 use Rattle.reports.specs.declared.report.Report.{Report}
-use Rattle.faults.specs.declared.fault.Fault.{Fault}
-use Rattle.faults.specs.declared.fault.Fault.TheVariants as faults
-use Rattle.faults.specs.Faults.{of_file, of_schema, unread}
-use Rattle.faults.specs.Devices.{is_device}
-use Rattle.checking.specs.Checks.{HasSchema, HasSchemaFault, HasFile, HasFileFault, FileAnswers, SourceAnswers, Checks}
+use Rattle.reports.specs.declared.fault.Fault.{Fault}
+use Rattle.reports.specs.declared.fault.Fault.TheVariants as faults
+use Rattle.reports.specs.Faults.{of_file, of_schema, unread}
+use Rattle.reports.specs.Devices.{is_device}
+use Rattle.checking.specs.Checks.{IsResolvedSchemaText, HasSchemaFault, HasFile, HasFileFault, FileAnswers, SourceAnswers, Checks}
 
 -- as many instances as names
 pub as-many : (x : Exchange) (n : ℕ) → n ≡ length x.names → n ≡ length (rows_of (structure x).sections)
 as-many x n e =
-    e ∙ ap length (sym (names-are x)) ∙ length-map (rows_of (structure x).sections) (λ (r : Row). r.name)
+    e ∙ ap length (sym (names-are x)) ∙ length-map (rows_of (structure x).sections) (λ (r : ExchangeRow). r.name)
 
 -- the text of the file isn't read
 pub unread-text : (s : Schema) (bytes : List ℕ) (e : TextFault) (f : FileFault) (r : Fault) → f ≡ text_fault roles.File e
@@ -77,7 +77,7 @@ no-device s bytes role (Err (faults.Device other written)) h = absurd h
 no-device s bytes role _ h = refl
 
 -- what is answered to a file is answered to a schema that is read
-pub of-file : (bytes : List ℕ) (s : Schema) → HasSchema s bytes → (file : Option (List ℕ)) (r : Result Report Fault)
+pub of-file : (bytes : List ℕ) (s : Schema) → IsResolvedSchemaText s bytes → (file : Option (List ℕ)) (r : Result Report Fault)
     → SourceAnswers s file r → Checks (Some bytes) file r
 of-file bytes s has file (Ok r) (f, of, is) = (s, f, has, of, is)
 of-file bytes s has file (Err (faults.Text roles.File kind place)) h = ((s, has), h)
@@ -98,10 +98,10 @@ of-file bytes s has file (Err faults.Memory) h = tt
 -- the schema's bytes are those of a source that gave them
 pub of-schema-source : (coming file : Option (List ℕ)) (bytes : List ℕ) → Gives coming bytes
     → (r : Result Report Fault) → Checks (Some bytes) file r → Checks coming file r
-of-schema-source coming file bytes give (Ok r) (s, f, has, of, h) = (s, f, give (HasSchema s) has, of, h)
+of-schema-source coming file bytes give (Ok r) (s, f, has, of, h) = (s, f, give (IsResolvedSchemaText s) has, of, h)
 of-schema-source coming file bytes give (Err (faults.Schema fault)) h = give (HasSchemaFault fault) h
 of-schema-source coming file bytes give (Err (faults.Text roles.File kind place)) ((s, has), h) =
-    ((s, give (HasSchema s) has), h)
+    ((s, give (IsResolvedSchemaText s) has), h)
 of-schema-source coming file bytes give (Err (faults.Text roles.Schema kind place)) h = absurd h
 of-schema-source coming file bytes give (Err (faults.Text roles.Output kind place)) h = absurd h
 of-schema-source coming file bytes give (Err (faults.Text roles.Certificate kind place)) h = absurd h
@@ -111,7 +111,7 @@ of-schema-source coming file bytes give (Err (faults.Refused role findings rules
 of-schema-source coming file bytes give (Err (faults.Certificate refusal)) h = absurd h
 of-schema-source coming file bytes give (Err (faults.Device roles.Schema written)) h = h
 of-schema-source coming file bytes give (Err (faults.Device roles.File written)) ((s, has), h) =
-    ((s, give (HasSchema s) has), h)
+    ((s, give (IsResolvedSchemaText s) has), h)
 of-schema-source coming file bytes give (Err (faults.Device roles.Output written)) h = absurd h
 of-schema-source coming file bytes give (Err (faults.Device roles.Certificate written)) h = absurd h
 of-schema-source coming file bytes give (Err faults.Memory) h = tt

@@ -9,16 +9,16 @@ use Rattle.std.proofs.lemmas.List.Concat.{flat_map-cons}
 use Rattle.express_syntax.specs.Schemas.{Schema}
 use Rattle.schema_semantics.specs.Parts.{Unchecked, AreUnchecked, dotted}
 use Rattle.schema_semantics.proofs.Listed.{unchecked-are-one}
-use Rattle.schema_parts.specs.Adding.{unchecked_of, unchecked_in}
-use Rattle.schema_parts.specs.declared.list.Unchecked.{Unchecked as Part}
+use Rattle.schema_unchecked_declarations.specs.UncheckedLists.{unchecked_of, unchecked_in}
+use Rattle.schema_unchecked_declarations.specs.declared.list.Unchecked.{Unchecked as Part}
 use Rattle.conformance.specs.declared.finding.Finding.{Finding}
 use Rattle.conformance.specs.Populations.{Instance}
 use Rattle.conformance.specs.RuleFindings.{Breach}
-use Rattle.conformance.specs.Said.{Said, instances}
-use Rattle.schema_rules.specs.Findings.{IsFindingOf, AreFindingsOf}
-use Rattle.schema_rules.specs.declared.finding.RuleFinding.{RuleFinding}
-use Rattle.schema_rules.specs.declared.finding.RuleFindingKind.{RuleFindingKind}
-use Rattle.check_findings.specs.Findings.{AreBehind}
+use Rattle.conformance.specs.SchemaMeanings.{Said, instances}
+use Rattle.schema_constraints.specs.Findings.{IsFindingOf, AreFindingsOf}
+use Rattle.schema_constraints.specs.declared.finding.RuleFinding.{RuleFinding}
+use Rattle.schema_constraints.specs.declared.finding.RuleFindingKind.{RuleFindingKind}
+use Rattle.file_findings.specs.Findings.{AreBehind}
 use Rattle.reports.specs.Lines.{part_text, reason_text, unchecked_line, finding_line, rule_finding_text, rule_finding_line, count_line}
 use Rattle.checking.specs.Reporting.{ReportsAreOne}
 

@@ -8,24 +8,24 @@ use Rattle.express_syntax.specs.declared.fault.SchemaFault.{SchemaFault}
 use Rattle.files.specs.declared.fault.Role.TheVariants as roles
 use Rattle.reports.specs.Lines.{report_text}
 use Rattle.reports.specs.declared.report.Report.{Report}
-use Rattle.faults.specs.declared.fault.Fault.{Fault}
-use Rattle.faults.specs.declared.fault.Fault.TheVariants as faults
-use Rattle.checking.specs.Checks.{HasSchema, HasSchemaFault, HasFile, HasFileFault, Checks}
-use Rattle.checking.specs.Laws.{ChecksAreOne, IsOfTexts, SayTheSame}
+use Rattle.reports.specs.declared.fault.Fault.{Fault}
+use Rattle.reports.specs.declared.fault.Fault.TheVariants as faults
+use Rattle.checking.specs.Checks.{IsResolvedSchemaText, HasSchemaFault, HasFile, HasFileFault, Checks}
+use Rattle.checking.specs.Laws.{ChecksAreOne, IsOfTexts, ReportsSayTheSame}
 use Rattle.checking.specs.Reporting.{IsReport, ReportsAreOne}
 use Rattle.checking.proofs.Texts.{no_schema_fault, schemas_once, schema_faults_once, no_file_fault, files_once, file_faults_once}
 
 module _ (schema file : List ℕ) where
   -- reports of what the two texts read as
-  reports : ReportsAreOne → (s t : Schema) (f g : File) (r q : Report) → HasSchema s schema → HasFile f file → IsReport s f r
-      → HasSchema t schema → HasFile g file → IsReport t g q → report_text r ≡ report_text q
+  reports : ReportsAreOne → (s t : Schema) (f g : File) (r q : Report) → IsResolvedSchemaText s schema → HasFile f file → IsReport s f r
+      → IsResolvedSchemaText t schema → HasFile g file → IsReport t g q → report_text r ≡ report_text q
   reports law s t f g r q a b c d e h =
       law s f r q c (subst (λ u. IsReport u f q) (schemas_once schema t s d a)
       (subst (λ u. IsReport t u q) (files_once file g f e b) h))
 
   -- beside a report
-  by_report : ReportsAreOne → (s : Schema) (f : File) (r : Report) → HasSchema s schema → HasFile f file → IsReport s f r
-      → (q : Result Report Fault) → Checks (Some schema) (Some file) q → IsOfTexts q → SayTheSame (Ok r) q
+  by_report : ReportsAreOne → (s : Schema) (f : File) (r : Report) → IsResolvedSchemaText s schema → HasFile f file → IsReport s f r
+      → (q : Result Report Fault) → Checks (Some schema) (Some file) q → IsOfTexts q → ReportsSayTheSame (Ok r) q
   by_report law s f r a b c (Ok q) k j = reports law s k.0 f k.1 r q a b c k.2 k.3 k.4
   by_report law s f r a b c (Err (faults.Schema fault)) k j = absurd (no_schema_fault schema s a fault k)
   by_report law s f r a b c (Err (faults.Text roles.File kind place)) k j = absurd (no_file_fault file f b kind place k.1)
@@ -41,7 +41,7 @@ module _ (schema file : List ℕ) where
 
   -- beside a fault of the schema
   by_schema : (f : SchemaFault) → HasSchemaFault f schema → (q : Result Report Fault) → Checks (Some schema) (Some file) q
-      → IsOfTexts q → SayTheSame (Err (faults.Schema f)) q
+      → IsOfTexts q → ReportsSayTheSame (Err (faults.Schema f)) q
   by_schema f h (Ok q) k j = absurd (no_schema_fault schema k.0 k.2 f h)
   by_schema f h (Err (faults.Schema g)) k j = schema_faults_once schema f g h k
   by_schema f h (Err (faults.Text roles.File kind place)) k j = absurd (no_schema_fault schema k.0.0 k.0.1 f h)
@@ -56,9 +56,9 @@ module _ (schema file : List ℕ) where
   by_schema f h (Err faults.Memory) k j = absurd j
 
   -- beside a fault of the file
-  by_file : (s : Schema) → HasSchema s schema → (kind : FaultKind) (place : ℕ) → HasFileFault kind place file
+  by_file : (s : Schema) → IsResolvedSchemaText s schema → (kind : FaultKind) (place : ℕ) → HasFileFault kind place file
       → (q : Result Report Fault) → Checks (Some schema) (Some file) q → IsOfTexts q
-      → SayTheSame (Err (faults.Text roles.File kind place)) q
+      → ReportsSayTheSame (Err (faults.Text roles.File kind place)) q
   by_file s has kind place h (Ok q) k j = absurd (no_file_fault file k.1 k.3 kind place h)
   by_file s has kind place h (Err (faults.Schema g)) k j = absurd (no_schema_fault schema s has g k)
   by_file s has kind place h (Err (faults.Text roles.File other elsewhere)) k j =

@@ -13,15 +13,15 @@ use Rattle.express_syntax.proofs.UniqueSchemas.{one_schema}
 use Rattle.express_syntax.proofs.FirstFault.{reads_no_fault, one_fault}
 use Rattle.schema_semantics.specs.Faults.{IsFault}
 use Rattle.schema_semantics.proofs.Faults.{faults-are-one}
-use Rattle.faults.specs.SameFaults.{SameFault}
-use Rattle.checking.specs.Checks.{HasSchema, HasSchemaFault, HasFile, HasFileFault}
+use Rattle.reports.specs.SameFaults.{SameFault}
+use Rattle.checking.specs.Checks.{IsResolvedSchemaText, HasSchemaFault, HasFile, HasFileFault}
 
 too_long : (text : List ℕ) → length text ≤ 2 ^ 40 → 2 ^ 40 < length text → ⊥
 too_long text less more = omega (arith, less, more)
 
 module _ (text : List ℕ) where
   -- a schema that is resolved has no fault
-  pub no_schema_fault : (s : Schema) → HasSchema s text → (f : SchemaFault) → HasSchemaFault f text → ⊥
+  pub no_schema_fault : (s : Schema) → IsResolvedSchemaText s text → (f : SchemaFault) → HasSchemaFault f text → ⊥
   no_schema_fault s has (schemas.Text kind place) (inl h) = too_long text has.within h.0
   no_schema_fault s has (schemas.Text kind place) (inr h) = reads_no_fault text s kind place has.reads h.1
   no_schema_fault s has (schemas.Name kind name) h =
@@ -30,7 +30,7 @@ module _ (text : List ℕ) where
       has.resolved
   no_schema_fault s has schemas.Memory h = h
 
-  pub schemas_once : (s t : Schema) → HasSchema s text → HasSchema t text → s ≡ t
+  pub schemas_once : (s t : Schema) → IsResolvedSchemaText s text → IsResolvedSchemaText t text → s ≡ t
   schemas_once s t h k = one_schema text s t h.reads k.reads
 
   pub schema_faults_once : (f g : SchemaFault) → HasSchemaFault f text → HasSchemaFault g text → SameFault f g

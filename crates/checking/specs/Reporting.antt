@@ -1,20 +1,20 @@
--- What is said of a file that is checked against a schema.
+-- The report on a file that is checked against a schema.
 use Rattle.std.specs.Prelude.{◌≡◌, length}
 use Rattle.express_syntax.specs.Schemas.{Schema}
 use Rattle.step_structures.specs.Trees.{File, rows_of}
 use Rattle.schema_semantics.specs.Parts.{AreUnchecked}
-use Rattle.schema_parts.specs.Adding.{unchecked_in}
-use Rattle.check_findings.specs.Findings.{AreFindings}
+use Rattle.schema_unchecked_declarations.specs.UncheckedLists.{unchecked_in}
+use Rattle.file_findings.specs.Findings.{AreFindings}
 use Rattle.reports.specs.Lines.{report_text}
 use Rattle.reports.specs.declared.report.Report.{Report}
 
--- The report has the parts of the schema that aren't checked, the findings of the file, the number of its instances, and
--- how many pairs of an instance and a domain rule are UNKNOWN.
+-- The report has the parts of the schema that aren't checked, the findings of the file, and the number of its
+-- instances. It also has the number of pairs of an instance and a domain rule that are UNKNOWN.
 pub record IsReport (s : Schema) (f : File) (r : Report) : Type 0 where
   pub unchecked : ∥ AreUnchecked s (unchecked_in r.unchecked.items) ∥₁
   pub findings : AreFindings s f r.findings.items r.rule_findings.items r.unknown
   pub instances : r.instances ≡ length (rows_of f.sections)
 
--- Two reports of one file by one schema have the same lines.
+-- Any two reports on one file by one schema have the same lines.
 abbrev pub ReportsAreOne : Type 0
 ReportsAreOne = (s : Schema) (f : File) (r q : Report) → IsReport s f r → IsReport s f q → report_text r ≡ report_text q

@@ -2,30 +2,30 @@
 
 ghost use Rattle.std.specs.Prelude.{◌≡◌, ◌≤◌, ◌^◌, IfSome, Some, false, length};
 ghost use Rattle.schema_names.specs.Schemas.{the_schema};
-ghost use Rattle.express_types.specs.Sound.{IsSound};
+ghost use Rattle.schema_resolution.specs.SoundGraphs.{IsSound};
 ghost use Rattle.files.specs.declared.fault.Role.TheVariants as roles;
-ghost use Rattle.faults.specs.Devices.{FileFailsAs, is_device};
+ghost use Rattle.reports.specs.Devices.{FileFailsAs, is_device};
 ghost use Rattle.checking.specs.Checks.{Checks, FileAnswers, SourceAnswers};
 
-use check_findings::findings::{Found, file_findings};
 use devices::device::Source;
-use express_rules::report::RuleReport;
-use express_text::read_schema;
-use express_types::graph::TypeGraph;
-use express_types::resolving::resolve;
-use faults::fault::{Fault, of_file, of_schema, too_large, unread};
+use express_reader::read_schema;
+use file_findings::findings::{Found, file_findings};
 use files::fault::{FileFault, LIMIT, Role};
 use files::read::read_whole;
+use reports::fault::{Fault, of_file, of_schema, too_large, unread};
 use reports::report::Report;
+use rule_outcomes::report::RuleReport;
+use schema_resolution::resolution::resolve;
+use schema_resolution::resolved_schema::ResolvedSchema;
 use std::alloc::Global;
 use std::hash::RandomState;
 use step_exchange::exchange::read_exchange;
 
-/// What is said of a file of these bytes by the types of its schema.
+/// Returns the report on a file of these bytes.
 fn report<'s>(
     alloc: Global,
     keys: RandomState,
-    graph: TypeGraph<'s, '_>,
+    graph: ResolvedSchema<'s, '_>,
     bytes: &[u8],
 ) -> Result<Report<'s>, Fault<'s>>
     requires sound { IsSound graph }
@@ -55,11 +55,11 @@ fn report<'s>(
     })
 }
 
-/// What is said of the file of a source by the types of its schema.
+/// Reads the file from a source and returns the report on it.
 fn report_source<'s, S: Source>(
     alloc: Global,
     keys: RandomState,
-    graph: TypeGraph<'s, '_>,
+    graph: ResolvedSchema<'s, '_>,
     file: &mut S,
 ) -> Result<Report<'s>, Fault<'s>>
     requires sound { IsSound graph }
@@ -76,7 +76,7 @@ fn report_source<'s, S: Source>(
     }
 }
 
-/// What is said of a file of a source by a schema of these bytes.
+/// Reads the schema from its bytes and the file from a source, and returns the report on the file.
 fn check_by<'s, S: Source>(
     alloc: Global,
     keys: RandomState,
@@ -100,29 +100,40 @@ fn check_by<'s, S: Source>(
     }
 }
 
-/// Checks a file against the schema of this text. The file is read to its end once nothing is wrong
-/// with the schema.
+/// Checks a file against a schema, given by its text. The file is read to its end if the schema has
+/// no fault.
 ///
-/// The report has the parts of the schema that aren't checked, all findings in order, how many instances
-/// there are, and of how many pairs of an instance and a domain rule it isn't known whether the instance
-/// keeps the rule.
+/// The report has:
 ///
-/// The fault is that of the schema's text or names (`Schema`), then that of the file's text, the first
-/// that shows (`Text`); a text of more than 2^40 bytes has one; `Device` comes where the file's source fails, and `Memory` where memory runs
-/// out. Names are hashed by these keys.
+/// - the parts of the schema that aren't checked;
+/// - all findings of the file, in order;
+/// - the number of its instances;
+/// - the number of pairs of an instance and a domain rule whose outcome is UNKNOWN.
+///
+/// Names are hashed with `keys`.
+///
+/// # Errors
+/// The first of these:
+///
+/// - `Schema` if the text of the schema has a fault or is larger than 2^40 bytes, or a name in it
+///   is at fault.
+/// - `Device` of the file if its source fails.
+/// - `Text` of the file, with the first fault, if its text has one or is larger than 2^40 bytes.
+///
+/// `Memory` if memory runs out, at any time.
 pub fn check<'s, F: Source>(
     alloc: Global,
     keys: RandomState,
     schema: &'s [u8],
     file: &mut F,
 ) -> Result<Report<'s>, Fault<'s>>
-    // The report is what the two texts say.
+    // The result is the one that the two texts have.
     ensures checks { Checks (Some schema.now) (F.to_come file.old) result }
-    // The fault is the source's exactly where that one failed.
+    // The fault is that of the source exactly if the source failed.
     ensures no_schema_fault { is_device roles.Schema result ≡ false }
     ensures file_fault { F.has_failed file.old ≡ false
         → F.has_failed file.new ≡ is_device roles.File result }
-    // A source that can't fail has no fault, and one that can't but fail has one where it is read.
+    // A source that can't fail has no fault. One that always fails has one if it is read.
     ensures file_told { IfSome (F.fails file.old) (FileFailsAs result) }
 {
     if schema.len() as u64 > LIMIT {

@@ -1,15 +1,15 @@
-//! Laws of reports and of answers.
+//! Laws of reports and of what `check` returns.
 
 ghost use Rattle.checking.specs.Laws.{ChecksAreOne};
 ghost use Rattle.checking.specs.Reporting.{ReportsAreOne};
 
-/// Two reports of one file by one schema have the same lines.
+/// Any two reports on one file by one schema have the same lines.
 pub fn reports_are_one()
     ensures { ReportsAreOne }
 {}
 
-/// Two answers to the same two texts say the same, but that the fault of a device, or want of memory,
-/// may come in place of any.
+/// Any two results of `check` for the same two texts agree, unless one of them is a device's fault
+/// or out of memory.
 pub fn checks_are_one()
     ensures { ChecksAreOne }
 {

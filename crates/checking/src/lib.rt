@@ -1,4 +1,4 @@
-//! Checking a file against a schema: what is said of it, from the bytes of both.
+//! Checking a file against a schema: the report on the file, from the bytes of both.
 #![tactic(auto)]
 
 pub mod check;

@@ -19,8 +19,8 @@ use Rattle.std.specs.Box.{box_value}
 use Rattle.clap.proofs.OnLiterals.{clap_on_literals}
 use Rattle.command_line.specs.Clap.{HasValues, Values, file_in, files_in, name_in, stepmin_app, values_in, values_of}
 use Rattle.command_line.specs.Requests.{CallFor, CallsFor, is_shown}
-use Rattle.command_line.specs.declared.usage.Refusal.{Refusal}
-use Rattle.command_line.specs.declared.usage.Refusal.TheVariants.{Shown, Usage, Memory}
+use Rattle.command_line.specs.declared.command_words.Refusal.{Refusal}
+use Rattle.command_line.specs.declared.command_words.Refusal.TheVariants.{Shown, Usage, Memory}
 use Rattle.command_line.specs.Commands.{AreOfCommand, AreOperand, AreOperands, AsksCheck, AsksNothing, AsksPlain, Given, IsOperand, dashes, four}
 use Rattle.command_line.proofs.Finishing.{command, given_by, given_fits, merging_fault, merging_values}
 use Rattle.command_line.proofs.Giving.{Fitting}

@@ -8,9 +8,9 @@ use Rattle.clap.specs.declared.parser.matches.ArgMatches.{ArgMatches}
 use Rattle.command_line.specs.Clap.{HasValues, Values, file_in, files_in, name_in, values_in, values_of}
 use Rattle.command_line.specs.Commands.{AreOfCommand, AsksCheck, AsksClashing, AsksPlain, Given, clash, four, AsksNothing, AsksShrink, AsksVerify}
 use Rattle.command_line.specs.Requests.{AskFor, CallFor, Settles}
-use Rattle.command_line.specs.declared.usage.Refusal.{Refusal}
-use Rattle.command_line.specs.declared.usage.Refusal.TheVariants.{Shown, Usage, Memory}
-use Rattle.command_line.specs.declared.usage.Request.{Request}
+use Rattle.command_line.specs.declared.command_words.Refusal.{Refusal}
+use Rattle.command_line.specs.declared.command_words.Refusal.TheVariants.{Shown, Usage, Memory}
+use Rattle.command_line.specs.declared.command_words.Request.{Request}
 use Rattle.command_line.proofs.Asking.{Finds, found_check, found_merging, found_plain, met_is, merging_found, AreAny, any_check, any_merging, any_plain, asks_or_not, four_fit}
 use Rattle.command_line.proofs.Finishing.{command}
 use Rattle.command_line.proofs.Giving.{Fitting}

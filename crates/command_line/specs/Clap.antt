@@ -1,4 +1,4 @@
--- The command line as clap reads it.
+-- The command line as clap parses it.
 use Rattle.std.specs.Prelude.{◌≡◌, Bool, true, codes, if◌then◌else◌, Option, List, option_map, slice_get, None, Some}
 use Rattle.clap.specs.Walk.{Row, Rule, Text, first_of, one_of}
 use Rattle.clap.specs.Simple.{App, new_app, new_rule, on_top, with_rule, with_subcommand}
@@ -50,33 +50,33 @@ shrink_app = with_rule (merging_app (codes "shrink")) strict_rule
 abbrev pub verify_app : App
 verify_app = merging_app (codes "verify")
 
--- the program, which has a version and wants a command
+-- the program, which has a version and requires a command
 abbrev pub stepmin_app : App
 stepmin_app = with_subcommand (with_subcommand (with_subcommand (with_subcommand
     (on_top (λ s. record s { has_version = true; subcommand_required = true }) (new_app (codes "stepmin")))
     plain_app.top) check_app.top) shrink_app.top) verify_app.top
 
--- the name of the command that was met, and what its FILE is
+-- the name of the command that was found, and the value of its FILE
 abbrev pub file_in : Option (Text × List Row) → Option (Text × Option Text)
 file_in = option_map (λ p. (p.0, first_of (codes "FILE") p.1))
 
--- The command that was met is `plain`, and its FILE is this.
+-- The command is `plain`, and its FILE is this.
 abbrev pub HasFile : Option (Text × List Row) → Text → Type 0
 HasFile met path = file_in met ≡ Some (codes "plain", Some path)
 
--- the name of the command that was met, and what its SCHEMA and its FILE are
+-- the name of the command that was found, and the values of its SCHEMA and FILE
 abbrev pub files_in : Option (Text × List Row) → Option (Text × Option Text × Option Text)
 files_in = option_map (λ p. (p.0, first_of (codes "SCHEMA") p.1, first_of (codes "FILE") p.1))
 
--- The command that was met is `check`, and its SCHEMA and its FILE are these.
+-- The command is `check`, and its SCHEMA and FILE are these.
 abbrev pub HasFiles : Option (Text × List Row) → Text → Text → Type 0
 HasFiles met schema file = files_in met ≡ Some (codes "check", Some schema, Some file)
 
--- the name of the command that was met
+-- the name of the command that was found
 abbrev pub name_in : Option (Text × List Row) → Option Text
 name_in = option_map (λ p. p.0)
 
--- SCHEMA, FILE, OUT, CERT, the NAMES of `--merge`, and the text that stands for `--strict`
+-- SCHEMA, FILE, OUT, CERT, the NAMES of `--merge`, and the text that represents `--strict`
 abbrev pub Values : Type 0
 Values = Option Text × Option Text × Option Text × Option Text × Option Text × Option Text
 
@@ -90,11 +90,11 @@ values_in rows = (
   one_of (codes "strict") rows,
 )
 
--- The command that was met has this name, and these values.
+-- The command that was found has this name and these values.
 abbrev pub HasValues : Option (Text × List Row) → Text → Values → Type 0
 HasValues met name values = option_map {U = Text × Values} (λ p. (p.0, values_in p.1)) met ≡ Some (name, values)
 
--- the values of these words, where a command takes `--strict`, or doesn't
+-- the values of what was given, for a command with or without `--strict`
 abbrev pub values_of : Bool → Given → Values
 values_of takes_strict given = (
   slice_get given.operands 0,

@@ -1,49 +1,49 @@
--- The words of the command line.
+-- The arguments of the command line.
 use Rattle.std.specs.Prelude.{◌≡◌, ◌⊎◌, ◌==◌, ℕ, List, [], ◌∷◌, ◌++◌, String, Bool, true, false, Option, Some, None, codes, if◌then◌else◌, length, map, string_bytes}
 use Rattle.std.specs.List.{list_any, slice_split}
 use Rattle.std.specs.Str.{bytes_eq}
 
--- the bytes of each word
+-- the bytes of each argument
 abbrev pub texts : {Z : Type 0} → List (String Z) → List (List ℕ)
 texts words = map string_bytes words
 
--- it is no option: it begins with no hyphen (45), or is that alone
+-- The argument isn't an option: it doesn't begin with a hyphen (45), or is a hyphen alone.
 abbrev pub IsOperand : List ℕ → Type 0
 IsOperand (first ∷ second ∷ rest) = first ≡ 45 → ⊥
 IsOperand word = Unit {0}
 
--- the word behind which each word is an operand
+-- the argument after which each argument is an operand
 abbrev pub dashes : List ℕ
 dashes = codes "--"
 
--- The words are one operand. Behind `--` any word is one, and `--` itself is none.
+-- The arguments are one operand. Any argument after `--` is an operand, and `--` itself isn't one.
 abbrev pub AreOperand : List (List ℕ) → List ℕ → Type 0
 AreOperand words operand = ((words ≡ operand ∷ []) × IsOperand operand)
     ⊎ ((words ≡ operand ∷ dashes ∷ []) × IsOperand operand)
     ⊎ (words ≡ dashes ∷ operand ∷ [])
 
--- The words, the program's own name first, ask for the normal text of the file of this path.
+-- The arguments, the program's own name first, request the normal text of the file at this path.
 abbrev pub AsksPlain : List (List ℕ) → List ℕ → Type 0
 AsksPlain words path = (program : List ℕ) × (operands : List (List ℕ)) × (words ≡ program ∷ codes "plain" ∷ operands)
     × AreOperand operands path
 
--- They ask for the normal text of no file.
+-- The arguments request the normal text of no file.
 abbrev pub AsksNoPlain : List (List ℕ) → Type 0
 AsksNoPlain words = (path : List ℕ) → AsksPlain words path → ⊥
 
--- The words are two operands, in this order.
+-- The arguments are two operands, in this order.
 abbrev pub AreOperands : List (List ℕ) → List ℕ → List ℕ → Type 0
 AreOperands words first second = ((words ≡ first ∷ second ∷ []) × IsOperand first × IsOperand second)
     ⊎ ((words ≡ first ∷ second ∷ dashes ∷ []) × IsOperand first × IsOperand second)
     ⊎ ((words ≡ first ∷ dashes ∷ second ∷ []) × IsOperand first)
     ⊎ (words ≡ dashes ∷ first ∷ second ∷ [])
 
--- The words ask whether the file of the second path conforms to the schema of the first.
+-- The arguments request whether the file at the second path conforms to the schema at the first.
 abbrev pub AsksCheck : List (List ℕ) → List ℕ → List ℕ → Type 0
 AsksCheck words schema file = (program : List ℕ) × (operands : List (List ℕ))
     × (words ≡ program ∷ codes "check" ∷ operands) × AreOperands operands schema file
 
--- what words give: operands in order, the value of `--merge`, and whether `--strict` is there
+-- what arguments give: operands in order, the value of `--merge`, and whether `--strict` is present
 pub record Given : Type 0 where
   pub operands : List (List ℕ)
   pub merge : Option (List ℕ)
@@ -52,12 +52,12 @@ pub record Given : Type 0 where
 abbrev pub nothing_given : Given
 nothing_given = record { operands = []; merge = None; strict = false }
 
--- one operand more
+-- what is given, with one more operand
 abbrev pub with_operand : Given → List ℕ → Given
 with_operand before word = record before { operands = before.operands ++ word ∷ [] }
 
--- Behind what was given before the words give the rest of `after`: operands and options in any order, each option once
--- at most, and behind `--` operands alone.
+-- `Gives before words after`: what was given is `before`, and `after` once `words` are added. Operands and options
+-- come in any order, each option at most once, and after `--` there are only operands.
 pub data Gives : Given → List (List ℕ) → Given → Type 0 where
   nothing : {all : Given} → Gives all [] all
   one_operand : {before after : Given} {word : List ℕ} {rest : List (List ℕ)} → IsOperand word
@@ -77,12 +77,12 @@ abbrev pub four : List ℕ → List ℕ → List ℕ → List ℕ → Option (Li
 four schema file output certificate merge strict =
     record { operands = schema ∷ file ∷ output ∷ certificate ∷ []; merge = merge; strict = strict }
 
--- The words name this command, and these are behind it.
+-- The arguments name this command, and those after it give this.
 abbrev pub AreOfCommand : List (List ℕ) → List ℕ → Given → Type 0
 AreOfCommand words command given = (program : List ℕ) × (behind : List (List ℕ))
     × (words ≡ program ∷ command ∷ behind) × Gives nothing_given behind given
 
--- NAMES, cut at its commas (44)
+-- the pieces of NAMES between its commas (44)
 abbrev pub pieces : List ℕ → List (List ℕ)
 pieces names = slice_split (λ byte. byte == 44) names
 
@@ -91,8 +91,8 @@ abbrev pub has_empty_name : Option (List ℕ) → Bool
 has_empty_name None = false
 has_empty_name (Some names) = list_any (λ name. length name == 0) (pieces names)
 
--- What the program says of words that clap takes and that can't be meant so: two of the paths are one, but that the
--- output may have that of the file, which it replaces then, and what is only read may be one text; or a name is empty.
+-- The message for arguments that clap accepts although they contradict each other: two of the paths are equal, or a
+-- name is empty. OUT may equal FILE, which it replaces. SCHEMA and FILE, which are only read, may be equal too.
 abbrev pub clash : List ℕ → List ℕ → List ℕ → List ℕ → Option (List ℕ) → Option (List ℕ)
 clash schema file output certificate merge =
     if bytes_eq output certificate then Some (codes "error: OUT and CERT are the same\n")
@@ -101,19 +101,19 @@ clash schema file output certificate merge =
     else (if bytes_eq file certificate then Some (codes "error: FILE and CERT are the same\n")
     else (if has_empty_name merge then Some (codes "error: a name in NAMES is empty\n") else None))))
 
--- The words ask for a smaller file at OUTPUT, and for its certificate at CERTIFICATE.
+-- The arguments request a smaller file at `output` and its certificate at `certificate`.
 abbrev pub AsksShrink : List (List ℕ) → List ℕ → List ℕ → List ℕ → List ℕ → Option (List ℕ) → Bool → Type 0
 AsksShrink words schema file output certificate merge strict =
     AreOfCommand words (codes "shrink") (four schema file output certificate merge strict)
     × (clash schema file output certificate merge ≡ None)
 
--- The words ask whether this certificate is one of this file and of this output.
+-- The arguments request whether this certificate proves this output of this file.
 abbrev pub AsksVerify : List (List ℕ) → List ℕ → List ℕ → List ℕ → List ℕ → Option (List ℕ) → Type 0
 AsksVerify words schema file output certificate merge =
     AreOfCommand words (codes "verify") (four schema file output certificate merge false)
     × (clash schema file output certificate merge ≡ None)
 
--- They would ask for one of both, but for what the program says of them.
+-- The arguments are those of `shrink` or `verify`, but the program refuses them with this message.
 abbrev pub AsksClashing : List (List ℕ) → List ℕ → Type 0
 AsksClashing words said = (schema : List ℕ) × (file : List ℕ) × (output : List ℕ) × (certificate : List ℕ)
     × (merge : Option (List ℕ)) × (strict : Bool)
@@ -121,7 +121,7 @@ AsksClashing words said = (schema : List ℕ) × (file : List ℕ) × (output : 
     ⊎ AreOfCommand words (codes "verify") (four schema file output certificate merge false))
     × (clash schema file output certificate merge ≡ Some said)
 
--- They ask for nothing.
+-- The arguments request nothing.
 abbrev pub AsksNothing : List (List ℕ) → Type 0
 AsksNothing words = AsksNoPlain words × ((schema : List ℕ) → (file : List ℕ) → AsksCheck words schema file → ⊥)
     × ((schema file output certificate : List ℕ) (merge : Option (List ℕ)) (strict : Bool)

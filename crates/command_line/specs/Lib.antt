@@ -1,4 +1,4 @@
 pub mod Commands
-pub mod AskedMerges
 pub mod Clap
 pub mod Requests
+pub mod steps

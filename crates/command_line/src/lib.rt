@@ -1,5 +1,5 @@
-//! What the words of a command line ask for.
+//! What the arguments of a command line request.
 #![tactic(auto)]
 
-pub mod merging;
-pub mod usage;
+pub mod command_words;
+pub mod merge_words;

@@ -6,4 +6,4 @@ mod paths;
 #[cfg(test)]
 mod runs;
 #[cfg(test)]
-mod torn;
+mod torn_files;

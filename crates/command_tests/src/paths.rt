@@ -1,8 +1,8 @@
-//! Paths that lead nowhere, and paths under which a file stands.
+//! Paths that lead nowhere, and paths with a file.
 
 use devices::device::{Failed, Sink, Source};
 use file_store::folder::Folder;
-use file_store::same::lead_to_one;
+use file_store::path_identity::lead_to_one;
 use files::store::Store;
 use std::alloc::Global;
 use std::rt::Files;
@@ -11,7 +11,7 @@ use std::{fs, io};
 
 const NOWHERE: &str = "no such folder/file";
 
-// Whether a file that isn't there fails at its first read, and not before.
+// Whether a file that doesn't exist fails at its first read, and not before.
 fn fails_at_a_read<R: Files>(rt: &R, alloc: Global) -> bool {
     let mut store = Folder::new(alloc, rt);
     let mut reader = store.reader(NOWHERE);
@@ -20,7 +20,7 @@ fn fails_at_a_read<R: Files>(rt: &R, alloc: Global) -> bool {
     !early && read == Err(Failed) && Source::failed(&reader)
 }
 
-// Whether a file that can't be made fails at its first write, and not before.
+// Whether a file that can't be created fails at its first write, and not before.
 fn fails_at_a_write<R: Files>(rt: &R, alloc: Global) -> bool {
     let mut store = Folder::new(alloc, rt);
     let mut writer = store.writer(NOWHERE);
@@ -37,10 +37,10 @@ fn a_path_that_leads_nowhere_fails_at_its_use(rt: HostRuntime) {
     assert!(rt; fails_at_a_write(&rt, rt.alloc()));
 }
 
-// Where a file stands for a while.
+// The path of a file that is there during a test.
 const STANDING: &str = "a-standing-file.stp";
 
-// Whether the file that stands holds this.
+// Whether the file at `STANDING` has this content.
 fn holds<R: Files>(rt: &R, alloc: Global, text: &str) -> bool {
     let Ok(file) = fs::open(rt, STANDING) else {
         return false;
@@ -51,7 +51,8 @@ fn holds<R: Files>(rt: &R, alloc: Global, text: &str) -> bool {
     }
 }
 
-// A store in which this was written under the path of the file that stands, which is there as it was.
+// Returns a store in which `text` was written to `STANDING`, if the file there still has its old
+// content.
 fn written<'p, R: Files>(rt: &'p R, alloc: Global, text: &str) -> Option<Folder<'p, R>> {
     let mut store = Folder::new(alloc, rt);
     let mut writer = store.writer(STANDING);
@@ -64,7 +65,7 @@ fn written<'p, R: Files>(rt: &'p R, alloc: Global, text: &str) -> Option<Folder<
     }
 }
 
-// Whether a file stays where a run isn't done.
+// Whether the old file stays if a run is abandoned.
 fn stays<R: Files>(rt: &R, alloc: Global) -> bool {
     let Some(store) = written(rt, alloc, "new") else {
         return false;
@@ -73,7 +74,7 @@ fn stays<R: Files>(rt: &R, alloc: Global) -> bool {
     holds(rt, alloc, "old")
 }
 
-// Whether a file is another one once a run is done.
+// Whether the old file is replaced once a run is finished.
 fn is_replaced<R: Files>(rt: &R, alloc: Global) -> bool {
     let Some(store) = written(rt, alloc, "new") else {
         return false;
@@ -92,10 +93,11 @@ fn a_file_that_stands_is_replaced_as_a_whole(rt: HostRuntime) -> Result<(), Fail
     Ok(())
 }
 
-// Where another file stands for a while.
+// The path of another file that is there during a test.
 const TOLD: &str = "a-told-file.stp";
 
-// Paths, and whether both lead to one file, where that one stands, and others don't.
+// Two paths, and whether both lead to one file. There is a file at `TOLD`, and none at the other
+// paths.
 const PAIRS: [(&str, &str, bool); 7] = [
     (TOLD, "./a-told-file.stp", true),
     (TOLD, "no-file.stp", false),
@@ -106,7 +108,7 @@ const PAIRS: [(&str, &str, bool); 7] = [
     ("/dev/null", "/dev/./null", false),
 ];
 
-// Whether it is told of each pair.
+// Whether each pair has the expected answer.
 fn are_told<R: Files>(rt: &R, alloc: Global) -> bool {
     for (one, other, are_one) in PAIRS {
         if lead_to_one(alloc, rt, one, other) != are_one {

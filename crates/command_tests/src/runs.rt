@@ -1,4 +1,4 @@
-//! A command line over a file in memory, and outputs with so much room.
+//! A command line over a file in memory, and outputs with limited room.
 
 ghost use Rattle.std.specs.Prelude.{Some, None, codes, option_map};
 ghost use Rattle.std.specs.Bool.{if◌then◌else◌};
@@ -27,7 +27,7 @@ const FILE: &str = "ISO-10303-21;\n\
     ENDSEC;\n\
     END-ISO-10303-21;\n";
 
-// What comes of a file: none where it isn't there, and a failure where it should end.
+// A file that is read: `None` if it doesn't exist. If `breaks`, it fails at its end.
 #[derive(Drop)]
 struct Book<'b> {
     left: Option<&'b [u8]>,
@@ -51,7 +51,7 @@ impl Read for Book<'_> {
     }
 }
 
-// Bytes that are kept, as far as there is room.
+// A sink that keeps its bytes, and fails when `room` is used up.
 #[derive(Drop)]
 struct Paper {
     bytes: Vec<u8>,
@@ -123,7 +123,7 @@ impl<'p, 'b> Store<'p> for Shelf<'b> {
     fn keep(&mut self, _path: &'p str, _writer: Counted<Paper>) {}
 }
 
-// What a run comes to.
+// The outcome of a run.
 #[derive(Drop)]
 struct Ending {
     status: u8,
@@ -132,13 +132,13 @@ struct Ending {
 }
 
 impl Ending {
-    // Whether it has this status, with these bytes on the outputs.
+    // Whether the run ended with this status and these bytes on the outputs.
     fn comes_to(&self, status: u8, out: &[u8], err: &[u8]) -> bool {
         self.status == status && self.out.as_slice() == out && self.err.as_slice() == err
     }
 }
 
-// Adds the words, owned.
+// Adds owned copies of the arguments. Returns `false` if memory runs out.
 fn add_words(alloc: Global, owned: &mut Vec<String>, words: &[&str]) -> bool {
     for word in words {
         let Ok(word) = String::from_str(alloc, word) else {
@@ -151,7 +151,7 @@ fn add_words(alloc: Global, owned: &mut Vec<String>, words: &[&str]) -> bool {
     true
 }
 
-// A command line over a store, where the outputs have this room.
+// Runs a command line over a store, with this room for the outputs.
 fn run_in<'p, S: Store<'p>>(
     alloc: Global,
     keys: RandomState,
@@ -170,7 +170,7 @@ fn run_in<'p, S: Store<'p>>(
     }
 }
 
-// A command line over the file, where the outputs have this room; none where memory runs out.
+// Runs a command line over the file, with this room for the outputs; `None` if memory runs out.
 fn run(
     alloc: Global,
     keys: RandomState,

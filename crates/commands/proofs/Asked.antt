@@ -96,7 +96,7 @@ module _ (writers : Writers) (words : List Text) (files : List ℕ → Stored)
       (subst (λ x. Verified s f o x m') same.3
       (subst (λ x. Verified s f o c x) same.4 runs))))
 
-  -- .. and an output is verified by
+  -- the arguments request a verification, and it was run
   pub verify_asked : Is → (s f o c : Text) (m : Option Text) → AsksVerify words s f o c m → Verified s f o c m
   verify_asked (inl (found, asks, does)) s f o c m other = apart words (codes "verify") (codes "plain") refl refl
       (verify_word words s f o c m other) (plain_word words found asks)

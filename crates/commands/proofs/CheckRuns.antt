@@ -3,24 +3,24 @@ use Rattle.std.proofs.Common.{◌≡◌, Bool, true, false, List, [], ◌∷◌,
 use Rattle.std.specs.Prelude.{◌⊎◌, ◌^◌}
 use Rattle.express_syntax.specs.declared.fault.SchemaFault.TheVariants as schemas
 use Rattle.conformance.specs.declared.finding.Finding.{Finding}
-use Rattle.schema_rules.specs.declared.finding.RuleFinding.{RuleFinding}
+use Rattle.schema_constraints.specs.declared.finding.RuleFinding.{RuleFinding}
 use Rattle.reports.specs.Lines.{report_text}
 use Rattle.reports.specs.declared.report.Report.{Report}
-use Rattle.faults.specs.Devices.{FileFailsAs, SchemaFailsAs, is_device}
-use Rattle.faults.specs.Faults.{unread}
-use Rattle.faults.specs.declared.fault.Fault.{Fault}
-use Rattle.faults.specs.declared.fault.Fault.TheVariants as faults
-use Rattle.faults.proofs.Failing.{schema_read, unread_before, unread_schema}
+use Rattle.reports.specs.Devices.{FileFailsAs, SchemaFailsAs, is_device}
+use Rattle.reports.specs.Faults.{unread}
+use Rattle.reports.specs.declared.fault.Fault.{Fault}
+use Rattle.reports.specs.declared.fault.Fault.TheVariants as faults
+use Rattle.reports.proofs.Failing.{schema_read, unread_before, unread_schema}
 use Rattle.checking.specs.Checks.{Checks}
 use Rattle.checking.proofs.Answering.{gives, of-schema-source, unread-schema}
 use Rattle.command_line.specs.Commands.{AsksCheck}
-use Rattle.files.specs.Reads.{DeviceFailsAs, IsBeyond, ReadsWhole}
+use Rattle.files.specs.steps.Reads.{DeviceFailsAs, IsBeyond, ReadsWhole}
 use Rattle.files.specs.Stores.{Stored}
 use Rattle.files.specs.declared.read.ReadFault.{ReadFault}
 use Rattle.files.specs.declared.read.ReadFault.TheVariants as reads
 use Rattle.files.specs.declared.fault.Role.TheVariants as roles
-use Rattle.command_line.specs.declared.usage.Refusal.{Refusal}
-use Rattle.command_line.specs.declared.usage.Refusal.TheVariants.{Memory}
+use Rattle.command_line.specs.declared.command_words.Refusal.{Refusal}
+use Rattle.command_line.specs.declared.command_words.Refusal.TheVariants.{Memory}
 use Rattle.commands.specs.CommandLines.{IsDevices}
 use Rattle.commands.specs.Endings.{EndsAs, Exit, on_output}
 use Rattle.commands.specs.Faults.{fault_ending}

@@ -5,9 +5,9 @@ use Rattle.express_syntax.specs.declared.fault.SchemaFault.TheVariants as schema
 use Rattle.files.specs.Stores.{Stored}
 use Rattle.files.specs.declared.fault.Role.{Role}
 use Rattle.files.specs.declared.fault.Role.TheVariants as roles
-use Rattle.faults.specs.Devices.{FileFailsAs, SchemaFailsAs, is_device}
-use Rattle.faults.specs.declared.fault.Fault.{Fault}
-use Rattle.faults.specs.declared.fault.Fault.TheVariants.{Certificate, Device, Findings, Memory, Refused, Schema, Text, Unchecked}
+use Rattle.reports.specs.Devices.{FileFailsAs, SchemaFailsAs, is_device}
+use Rattle.reports.specs.declared.fault.Fault.{Fault}
+use Rattle.reports.specs.declared.fault.Fault.TheVariants.{Certificate, Device, Findings, Memory, Refused, Schema, Text, Unchecked}
 use Rattle.commands.specs.CommandLines.{CanFail}
 use Rattle.commands.specs.Endings.{EndsAs, Exit}
 use Rattle.commands.specs.Faults.{fault_ending}
@@ -46,7 +46,7 @@ module _ (T : Type 0) where
   device_wanted (Device roles.Certificate written) = inl (roles.Certificate, refl)
   device_wanted Memory = inr (λ never. omega (arith, never))
 
-  -- .. and it is wanted for each
+  -- the status of a device is wanted for each device's fault
   pub wants_device : (role : Role) (fault : Fault) → is_device {T = T} role (Err fault) ≡ true
       → wanted_of (fault_ending fault) ≡ 4
   wants_device role (Schema fault) is = absurd (true≢false (sym is))

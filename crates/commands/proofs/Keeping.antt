@@ -1,7 +1,7 @@
 -- What a store keeps of a run that merges a file.
 use Rattle.std.proofs.Common.{◌≡◌, ◌∙◌, Bool, false, List, [], ℕ, Option, IfSome, inr, refl, sym, subst}
 use Rattle.conformance.specs.Choices.{Choice}
-use Rattle.command_line.specs.declared.usage.Request.{Request}
+use Rattle.command_line.specs.declared.command_words.Request.{Request}
 use Rattle.files.specs.Stores.{HoldsWritten, Stored, file_seen}
 use Rattle.commands.specs.CommandLines.{Does, written_at}
 use Rattle.commands.specs.Endings.{Exit, output_seen}

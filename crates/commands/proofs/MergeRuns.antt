@@ -3,20 +3,20 @@ use Rattle.std.proofs.Common.{◌≡◌, ◌∙◌, Bool, true, false, List, [],
 use Rattle.std.specs.Prelude.{◌⊎◌, ◌^◌, unwrap_or}
 use Rattle.std.proofs.KnownBytes.{Appends-nil}
 use Rattle.conformance.specs.Choices.{Choice}
-use Rattle.files.specs.Reads.{DeviceFailsAs, IsBeyond, ReadsWhole}
+use Rattle.files.specs.steps.Reads.{DeviceFailsAs, IsBeyond, ReadsWhole}
 use Rattle.files.specs.Stores.{Stored}
 use Rattle.files.specs.declared.read.ReadFault.{ReadFault}
 use Rattle.files.specs.declared.read.ReadFault.TheVariants as reads
 use Rattle.files.specs.declared.fault.Role.{Role}
 use Rattle.files.specs.declared.fault.Role.TheVariants as roles
 use Rattle.files.specs.declared.fault.FileFault.TheVariants as file_faults
-use Rattle.command_line.specs.declared.usage.Refusal.{Refusal}
-use Rattle.command_line.specs.declared.usage.Refusal.TheVariants as refusals
-use Rattle.faults.specs.Devices.{FileFailsAs, SchemaFailsAs, is_device}
-use Rattle.faults.specs.Faults.{unread}
-use Rattle.faults.specs.declared.fault.Fault.{Fault}
-use Rattle.faults.specs.declared.fault.Fault.TheVariants.{Memory}
-use Rattle.faults.proofs.Failing.{schema_read, unread_before, unread_other, unread_schema}
+use Rattle.command_line.specs.declared.command_words.Refusal.{Refusal}
+use Rattle.command_line.specs.declared.command_words.Refusal.TheVariants as refusals
+use Rattle.reports.specs.Devices.{FileFailsAs, SchemaFailsAs, is_device}
+use Rattle.reports.specs.Faults.{unread}
+use Rattle.reports.specs.declared.fault.Fault.{Fault}
+use Rattle.reports.specs.declared.fault.Fault.TheVariants.{Memory}
+use Rattle.reports.proofs.Failing.{schema_read, unread_before, unread_other, unread_schema}
 use Rattle.shrinking.specs.Shrinking.{Shrinks, Written}
 use Rattle.shrinking.specs.declared.summary.Summary.{Summary}
 use Rattle.shrinking.proofs.Answering.{of_source, schema_not_given, unwritten}

@@ -1,14 +1,14 @@
 -- Which files are opened.
 use Rattle.std.proofs.Common.{◌≡◌, List, [], ◌∷◌, ◌++◌, ℕ, Option, None, Some, inl, inr, ap, subst, ◌∙◌}
 use Rattle.std.proofs.lemmas.List.{append_assoc}
-use Rattle.command_line.specs.AskedMerges.{text_of}
+use Rattle.command_line.specs.steps.AskedMerges.{text_of}
 use Rattle.command_line.specs.Requests.{AskFor}
-use Rattle.command_line.specs.declared.usage.Request.{Request}
-use Rattle.command_line.specs.declared.usage.Request.TheVariants as requests
+use Rattle.command_line.specs.declared.command_words.Request.{Request}
+use Rattle.command_line.specs.declared.command_words.Request.TheVariants as requests
 use Rattle.files.specs.Stores.{Access, Opens}
 use Rattle.commands.specs.CommandLines.{OpensAsked, check_opens, plain_opens, shrink_opens, verify_opens}
 use Rattle.commands.specs.Endings.{Output}
-use Rattle.commands.specs.ComputedRequests.{OpensUnlessMemory, opened_by, proof_opens, smaller_opens}
+use Rattle.commands.specs.steps.ComputedRequests.{OpensUnlessMemory, opened_by, proof_opens, smaller_opens}
 
 -- what is opened behind what was opened
 pub opens_then : (a b c : Option (List Access)) (xs ys : List Access) → Opens a b xs → Opens b c ys
@@ -29,7 +29,7 @@ module _ {S : Type 0} (opened : S → Option (List Access)) where
   opens_four o p q r s w x y z first second third fourth = opens_then (opened o) (opened q) (opened s)
       (w ∷ x ∷ []) (y ∷ z ∷ []) (opens_two o p q w x first second) (opens_two q r s y z third fourth)
 
-  -- .. and what is kept
+  -- four files are opened, and two of them are taken back
   pub opens_six : (o p q r s t u : S) (w x y z a b : Access) → Opens (opened o) (opened p) (w ∷ [])
       → Opens (opened p) (opened q) (x ∷ []) → Opens (opened q) (opened r) (y ∷ [])
       → Opens (opened r) (opened s) (z ∷ []) → Opens (opened s) (opened t) (a ∷ [])

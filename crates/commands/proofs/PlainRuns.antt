@@ -7,8 +7,8 @@ use Rattle.files.specs.Stores.{Stored}
 use Rattle.files.specs.declared.fault.Role.TheVariants as roles
 use Rattle.files.specs.declared.fault.FileFault.{FileFault}
 use Rattle.files.specs.declared.fault.FileFault.TheVariants as faults
-use Rattle.command_line.specs.declared.usage.Refusal.{Refusal}
-use Rattle.command_line.specs.declared.usage.Refusal.TheVariants.{Memory}
+use Rattle.command_line.specs.declared.command_words.Refusal.{Refusal}
+use Rattle.command_line.specs.declared.command_words.Refusal.TheVariants.{Memory}
 use Rattle.commands.specs.CommandLines.{IsDevices}
 use Rattle.commands.specs.Endings.{Ends, Exit, Output, OutputState}
 use Rattle.commands.specs.Merges.{Writers}

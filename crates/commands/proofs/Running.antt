@@ -2,17 +2,17 @@
 use Rattle.std.proofs.Common.{◌≡◌, Bool, false, List, ℕ, Option, inl, inr, refl, subst, codes, arith}
 use Rattle.std.specs.Prelude.{◌⊎◌, string_bytes}
 use Rattle.command_line.specs.Commands.{AsksCheck, AsksNothing, AsksPlain, AsksShrink, AsksVerify, four}
-use Rattle.command_line.specs.AskedMerges.{text_of}
+use Rattle.command_line.specs.steps.AskedMerges.{text_of}
 use Rattle.command_line.specs.Requests.{AskFor, CallFor}
-use Rattle.command_line.specs.declared.usage.Request.{Request}
-use Rattle.command_line.specs.declared.usage.Request.TheVariants as requests
-use Rattle.command_line.specs.declared.usage.Refusal.{Refusal}
-use Rattle.command_line.specs.declared.usage.Refusal.TheVariants.{Shown, Usage, Memory}
+use Rattle.command_line.specs.declared.command_words.Request.{Request}
+use Rattle.command_line.specs.declared.command_words.Request.TheVariants as requests
+use Rattle.command_line.specs.declared.command_words.Refusal.{Refusal}
+use Rattle.command_line.specs.declared.command_words.Refusal.TheVariants.{Shown, Usage, Memory}
 use Rattle.files.specs.Lines.{line_of}
 use Rattle.files.specs.Stores.{Stored}
 use Rattle.files.specs.declared.fault.FileFault.TheVariants as faults
 use Rattle.commands.specs.CommandLines.{AsksToWrite, Does, IsDevices, IsWantOfMemory, Runs, written_at}
-use Rattle.commands.specs.ComputedRequests.{IsApart, IsWritten}
+use Rattle.commands.specs.steps.ComputedRequests.{IsApart, IsWritten}
 use Rattle.commands.specs.Endings.{Exit, on_error}
 use Rattle.commands.specs.Merges.{Writers, asked_choice}
 use Rattle.commands.specs.Runs.{Refuses}

@@ -3,18 +3,18 @@ use Rattle.std.proofs.Common.{◌≡◌, true, false, List, ℕ, Option, Result,
 use Rattle.std.specs.Prelude.{◌⊎◌}
 use Rattle.conformance.specs.Choices.{Choice}
 use Rattle.command_line.specs.Commands.{AsksVerify}
-use Rattle.command_line.specs.declared.usage.Refusal.{Refusal}
-use Rattle.command_line.specs.declared.usage.Refusal.TheVariants as refusals
+use Rattle.command_line.specs.declared.command_words.Refusal.{Refusal}
+use Rattle.command_line.specs.declared.command_words.Refusal.TheVariants as refusals
 use Rattle.files.specs.Lines.{line_of}
 use Rattle.files.specs.Stores.{Stored}
 use Rattle.files.specs.declared.fault.Role.{Role}
 use Rattle.files.specs.declared.fault.Role.TheVariants as roles
 use Rattle.files.specs.declared.fault.FileFault.TheVariants as file_faults
-use Rattle.faults.specs.Devices.{is_device}
-use Rattle.faults.specs.Faults.{too_large}
-use Rattle.faults.specs.declared.fault.Fault.{Fault}
-use Rattle.faults.specs.declared.fault.Fault.TheVariants as faults
-use Rattle.verifying.specs.Sources.{FirstUnread, IsRead, IsUnread, VerifiesAll, given, no_certificate, no_file, no_output, no_schema}
+use Rattle.reports.specs.Devices.{is_device}
+use Rattle.reports.specs.Faults.{too_large}
+use Rattle.reports.specs.declared.fault.Fault.{Fault}
+use Rattle.reports.specs.declared.fault.Fault.TheVariants as faults
+use Rattle.verifying.specs.Sources.{FirstUnread, IsWholeText, IsUnread, VerifiesAll, given, no_certificate, no_file, no_output, no_schema}
 use Rattle.verifying.specs.Verifying.{Verifies}
 use Rattle.verifying.specs.declared.proof.Proof.{Proof}
 use Rattle.verifying.proofs.Reading.{no_device}
@@ -39,9 +39,9 @@ verify_says choice schema file output certificate exit r =
 -- ---- the schema
 
 -- A schema that was read to its end is answered to as its text is.
-module _ (schema file output certificate : Stored) (text : List ℕ) (read : IsRead schema text) where
-  same_text : (other : List ℕ) → IsRead (given text) other → IsRead schema other
-  same_text other given = subst (IsRead schema) given.text_is read
+module _ (schema file output certificate : Stored) (text : List ℕ) (read : IsWholeText schema text) where
+  same_text : (other : List ℕ) → IsWholeText (given text) other → IsWholeText schema other
+  same_text other given = subst (IsWholeText schema) given.text_is read
 
   unread : (fault : Fault) → IsUnread roles.Schema (given text) fault → fault ≡ faults.Memory
   unread fault (inl (is, fails)) = absurd (true≢false (sym fails))

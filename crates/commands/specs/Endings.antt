@@ -1,4 +1,4 @@
--- How a run ends: what goes out, what is said on the error output, and the status.
+-- How a run ends: what is printed on the output and on the error output, and the status.
 use Rattle.std.specs.Prelude.{◌≡◌, ◌++◌, ℕ, List, Option, None, Some, Bool, false, Result, Ok, Err, MatchBool, MatchResult, is_err}
 use Rattle.std.specs.Io.KnownBytes.{Appends}
 use Rattle.devices.specs.Emits.{Emits}
@@ -9,12 +9,12 @@ use Rattle.files.specs.declared.fault.FileFault.{FileFault}
 use Rattle.files.specs.declared.fault.Role.TheVariants as roles
 use Rattle.commands.specs.Statuses.{fault_status}
 
--- What an output holds, where that is told, and whether it has failed.
+-- What an output holds, if it reveals that, and whether it has failed.
 pub record OutputState : Type 0 where
   pub held : Option (List ℕ)
   pub has_failed : Bool
 
--- An output as a run finds it, and as it leaves it.
+-- An output before and after a run.
 pub record Output : Type 0 where
   pub before : OutputState
   pub after : OutputState
@@ -25,7 +25,7 @@ pub record Exit : Type 0 where
   pub err : Output
   pub status : ℕ
 
--- what is seen of an output, and of one before and behind a run
+-- the state of an output, and the states of an output before and after a run
 abbrev pub state_seen : {S : Type 0} → (S → Option (List ℕ)) → (S → Bool) → S → OutputState
 state_seen held has_failed sink = record { held = held sink; has_failed = has_failed sink }
 
@@ -36,40 +36,41 @@ output_seen held has_failed old new =
 abbrev pub exit_of : Output → Output → ℕ → Exit
 exit_of out err status = record { out = out; err = err; status = status }
 
--- It was left as it was found.
+-- The output is unchanged.
 abbrev pub IsUntouched : Output → Type 0
 IsUntouched out = out.after ≡ out.before
 
--- A front of the text went out.
+-- A prefix of the text was written.
 abbrev pub AppendsFront : Option (List ℕ) → Option (List ℕ) → List ℕ → Type 0
 AppendsFront old new text = (sent : List ℕ) × (left : List ℕ) × (text ≡ sent ++ left) × Appends old new sent
 
--- The text went out, and this is the status; or the output failed behind a front of it, and the status is a
--- device's.
+-- Either the text was written, and the status is `wanted`, or the output failed after a prefix of the text, and the
+-- status is 4.
 pub record Prints (out : Output) (text : List ℕ) (wanted status : ℕ) : Type 0 where
   pub fails : Bool
   pub told : out.before.has_failed ≡ false → out.after.has_failed ≡ fails
   pub sent : MatchBool fails ((status ≡ 4) × AppendsFront out.before.held out.after.held text)
       ((status ≡ wanted) × Appends out.before.held out.after.held text)
 
--- How a run ends for what a command came to, by its error output: silently, or with the line of the fault.
+-- What a run leaves on its error output for the outcome of a command: nothing, or the line of the fault.
 abbrev pub Ends : Result Unit FileFault → Output → ℕ → Type 0
 Ends (Ok _) err status = (status ≡ 0) × IsUntouched err
 Ends (Err fault) err status = Prints err (line_of fault) (fault_status fault) status
 
--- How a run ends, and with which status: a text on the output, a line on the error output, or both, the text first.
+-- How a run is to end, and with which status: a text on the output, a line on the error output, or both, the text
+-- first.
 pub data Ending : Type 0 where
   on_output : List ℕ → ℕ → Ending
   on_error : List ℕ → ℕ → Ending
   on_both : List ℕ → List ℕ → ℕ → Ending
 
--- This goes to the error output, if anything.
+-- The error output gets this line, if any.
 abbrev pub Closes : Option (List ℕ) → ℕ → Output → ℕ → Type 0
 Closes None wanted err status = (status ≡ wanted) × IsUntouched err
 Closes (Some line) wanted err status = Prints err line wanted status
 
--- The text went out, and behind it the line, if there is one; or the output failed behind a front of the text, and the
--- line of that fault says how many bytes went out.
+-- Either the text was written, and after it the line, if any, or the output failed after a prefix of the text. In
+-- that case the error output gets the line of that fault, which states how many bytes were written.
 pub record Tells (text : List ℕ) (line : Option (List ℕ)) (wanted : ℕ) (exit : Exit) : Type 0 where
   pub sent : Result Unit WriteFault
   pub emits : Emits exit.out.before.held exit.out.after.held text sent
@@ -77,7 +78,7 @@ pub record Tells (text : List ℕ) (line : Option (List ℕ)) (wanted : ℕ) (ex
   pub ends : MatchResult sent (λ _. Closes line wanted exit.err exit.status)
       (λ fault. Ends (Err (write_fault roles.Output fault)) exit.err exit.status)
 
--- A run ended so.
+-- A run ended in this way.
 abbrev pub EndsAs : Ending → Exit → Type 0
 EndsAs (on_output text wanted) exit = Tells text None wanted exit
 EndsAs (on_error line wanted) exit = IsUntouched exit.out × Prints exit.err line wanted exit.status

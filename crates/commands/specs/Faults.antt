@@ -1,21 +1,21 @@
--- How a run ends for which a file isn't checked, merged or verified.
+-- How a run ends if a file isn't checked, merged or verified.
 use Rattle.std.specs.Prelude.{◌++◌, ℕ, List, [], ◌∷◌, length, flat_map, codes, decimal}
 use Rattle.conformance.specs.declared.finding.Finding.{Finding}
-use Rattle.schema_rules.specs.declared.finding.RuleFinding.{RuleFinding}
+use Rattle.schema_constraints.specs.declared.finding.RuleFinding.{RuleFinding}
 use Rattle.files.specs.Lines.{line_of, role_text}
 use Rattle.files.specs.declared.fault.Role.{Role}
 use Rattle.files.specs.declared.fault.FileFault.TheVariants as files
 use Rattle.reports.specs.Lines.{finding_line, report_text, rule_finding_line, unchecked_line}
 use Rattle.reports.specs.MergeLines.{role_line, strict_line}
 use Rattle.reports.specs.SchemaLines.{schema_line}
-use Rattle.faults.specs.declared.refusal.Refusal.{Refusal}
-use Rattle.faults.specs.declared.refusal.Refusal.TheVariants.{BadText, GroundlessSplit, NotTheImage, OldVersion, Unstable, WrongNames}
-use Rattle.faults.specs.declared.fault.Fault.{Fault}
-use Rattle.faults.specs.declared.fault.Fault.TheVariants.{Certificate, Device, Findings, Memory, Refused, Schema, Text, Unchecked}
+use Rattle.reports.specs.declared.refusal.Refusal.{Refusal}
+use Rattle.reports.specs.declared.refusal.Refusal.TheVariants.{BadText, GroundlessSplit, NotTheImage, OldVersion, Unstable, WrongNames}
+use Rattle.reports.specs.declared.fault.Fault.{Fault}
+use Rattle.reports.specs.declared.fault.Fault.TheVariants.{Certificate, Device, Findings, Memory, Refused, Schema, Text, Unchecked}
 use Rattle.commands.specs.Endings.{Ending, on_both, on_error, on_output}
 use Rattle.commands.specs.Statuses.{schema_status}
 
--- what is wrong with a certificate
+-- why a certificate is refused
 abbrev pub refusal_text : Refusal → List ℕ
 refusal_text OldVersion = codes "C6 OldVersion"
 refusal_text (BadText line) = codes "C1 BadText at line " ++ decimal line
@@ -27,14 +27,15 @@ refusal_text NotTheImage = codes "C5 NotTheImage"
 abbrev pub refusal_line : Refusal → List ℕ
 refusal_line refusal = codes "certificate: " ++ refusal_text refusal ++ 10 ∷ []
 
--- what is found of a file that is verified: each line stands behind its role
+-- the findings of a file that is verified, each line after the file's role
 abbrev pub refused_lines : Role → List Finding → List RuleFinding → List ℕ
 refused_lines role findings rules =
     flat_map (λ f. role_line (role_text role) (finding_line f)) findings
     ++ flat_map (λ f. role_line (role_text role) (rule_finding_line f)) rules
 
--- The line of each fault and its status. The report of a file that is merged goes to the output, and so do the parts of a
--- schema that a strict choice refuses, with a line on the error output; all else goes to the error output alone.
+-- The line of each fault and its status. The report on a file that is merged goes to the output. So do the
+-- unchecked parts of a schema that a strict choice refuses, with a line on the error output. Everything else goes
+-- to the error output alone.
 abbrev pub fault_ending : Fault → Ending
 fault_ending (Schema fault) = on_error (schema_line fault) (schema_status fault)
 fault_ending (Text role kind place) = on_error (line_of (files.Text role kind place)) 2

@@ -6,5 +6,5 @@ pub mod Runs
 pub mod Merges
 pub mod Verifies
 pub mod CommandLines
-pub mod ComputedRequests
 pub mod RunLaws
+pub mod steps

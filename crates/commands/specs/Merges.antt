@@ -1,34 +1,35 @@
--- What a run comes to that merges a file.
+-- The outcome of a run that merges a file.
 use Rattle.std.specs.Prelude.{◌≡◌, ◌⊎◌, ℕ, List, [], Option, None, Some, IfSome, Bool, true, false, Result, Ok, Err, is_some}
 use Rattle.conformance.specs.Choices.{Choice, usual, given}
 use Rattle.command_line.specs.Commands.{pieces}
 use Rattle.files.specs.Stores.{HoldsWritten, Stored}
 use Rattle.files.specs.declared.fault.Role.TheVariants as roles
 use Rattle.reports.specs.MergeLines.{merge_text}
-use Rattle.faults.specs.Devices.{FileFailsAs, SchemaFailsAs, is_device}
-use Rattle.faults.specs.declared.fault.Fault.{Fault}
+use Rattle.reports.specs.Devices.{FileFailsAs, SchemaFailsAs, is_device}
+use Rattle.reports.specs.declared.fault.Fault.{Fault}
 use Rattle.shrinking.specs.Shrinking.{Shrinks, Written}
 use Rattle.shrinking.specs.declared.summary.Summary.{Summary}
 use Rattle.commands.specs.Endings.{Ending, EndsAs, Exit, IsUntouched, Output, OutputState, on_output, state_seen}
 use Rattle.commands.specs.Faults.{fault_ending}
 
--- the entities that words choose: the usual ones, or those of NAMES
+-- the entity data types that the arguments choose: the usual ones, or those of NAMES
 abbrev pub asked_choice : Option (List ℕ) → Choice
 asked_choice None = usual
 asked_choice (Some names) = given (pieces names)
 
--- how a merge ends: with the report of the file, how many instances are kept, and the last round, or with the fault
+-- how a merge ends: with the report, the number of instances kept and the last round, or with the fault
 abbrev pub shrink_ending : Result Summary Fault → Ending
 shrink_ending (Ok m) = on_output (merge_text m.report m.kept m.rounds) 0
 shrink_ending (Err fault) = fault_ending fault
 
--- what an output held before a run, and what it holds behind it
+-- what an output held before a run, and what it holds after it
 abbrev pub written_in : Output → Written
 written_in out = record { before = out.before.held; after = out.after.held }
 
--- The run merged a file by a schema and a choice, and wrote the output and the certificate. Each of both has failed
--- exactly where that is the fault. The schema, where it is told whether its reads fail, has failed just where they do, and
--- so has the file, once the schema was read.
+-- The run merged a file according to a schema and a choice, and wrote the output and the certificate. Each of these
+-- two has failed exactly if that is the fault. If it is known whether the reads of the schema fail, the fault is
+-- that of its device exactly if they do, unless memory ran out. This also holds of the file, once schema and choice
+-- are accepted.
 pub record RunsShrink (choice : Choice) (strict : Bool) (schema file : Stored) (output certificate : Output)
     (exit : Exit) : Type 0 where
   pub outcome : Result Summary Fault
@@ -41,7 +42,7 @@ pub record RunsShrink (choice : Choice) (strict : Bool) (schema file : Stored) (
       → certificate.after.has_failed ≡ is_device roles.Certificate outcome
   pub ends : EndsAs (shrink_ending outcome) exit
 
--- The writers of a store: what each holds, where that is told, and whether it has failed.
+-- The writers of a store: what each holds, if it reveals that, and whether it has failed.
 pub record Writers : Type 1 where
   pub Writer : Type 0
   pub held : Writer → Option (List ℕ)
@@ -50,23 +51,24 @@ pub record Writers : Type 1 where
 abbrev pub writers_of : {W : Type 0} → (W → Option (List ℕ)) → (W → Bool) → Writers
 writers_of {W} held has_failed = record { Writer = W; held = held; has_failed = has_failed }
 
--- Each of these writers tells what it holds.
+-- Each of these writers reveals what it holds.
 abbrev pub WritersTell : Writers → Type 0
 WritersTell writers = (writer : writers.Writer) → is_some (writers.held writer) ≡ true
 
--- Nothing was written yet, nor has a write failed; and that is told where each writer tells what it holds.
+-- Nothing was written yet, and no write has failed. What is held is known if each writer reveals it.
 pub record IsEmpty (writers : Writers) (state : OutputState) : Type 0 where
   pub fresh : state.has_failed ≡ false
   pub nothing : IfSome state.held (λ bytes. bytes ≡ [])
   pub told : WritersTell writers → is_some state.held ≡ true
 
--- It stands behind a run as one of these writers does, or as it stood before.
+-- After the run the output is in the state of one of these writers, or unchanged.
 abbrev pub StandsAsWriter : Writers → Output → Type 0
 StandsAsWriter writers out = IsUntouched out
     ⊎ ((writer : writers.Writer) × (out.after ≡ state_seen writers.held writers.has_failed writer))
 
--- The run merged a file, and a store kept what was written: by what the paths of the output and of the certificate held
--- before the run, and hold behind it. What was written, and whether that failed, is told by writers of the store.
+-- The run merged a file, and the store kept what was written. The paths of output and certificate are given with
+-- what they held before the run and hold after it. Writers of the store show what was written, and whether writing
+-- failed.
 pub record MakesSmaller (writers : Writers) (choice : Choice) (strict : Bool) (schema file : Stored)
     (at_output at_certificate : Written) (exit : Exit) : Type 0 where
   pub output : Output

@@ -1,4 +1,4 @@
--- What `plain` answers, and what goes out.
+-- What `plain` returns, and what it writes.
 use Rattle.std.specs.Prelude.{◌≡◌, ◌≤◌, ◌<◌, ◌^◌, ◌⊎◌, ℕ, List, length, Option, IfSome, Bool, true, false, Result, Ok, Err}
 use Rattle.std.specs.Io.KnownBytes.{Appends, Keeps}
 use Rattle.step_structures.specs.declared.fault.FaultKind.{FaultKind}
@@ -12,7 +12,7 @@ use Rattle.files.specs.declared.fault.Role.TheVariants.{File, Output}
 use Rattle.files.specs.declared.fault.FileFault.{FileFault}
 use Rattle.files.specs.declared.fault.FileFault.TheVariants.{Text, Device, Memory}
 
--- The bytes are at most 2^40 and read as some structure, and this is its normal text.
+-- The bytes are at most 2^40 and read as an exchange structure, whose normal text is `text`.
 pub record HasPlain (text bytes : List ℕ) : Type 0 where
   pub within : length bytes ≤ 2 ^ 40
   pub header_bytes : List ℕ
@@ -20,14 +20,14 @@ pub record HasPlain (text bytes : List ℕ) : Type 0 where
   pub reads : ReadsAs bytes header_bytes file
   pub text_is : text ≡ plain_text header_bytes file.sections
 
--- The bytes are more than 2^40, or this is the fault in them that shows first.
+-- The bytes are more than 2^40, or this is the first fault in them.
 abbrev pub HasFault : FaultKind → ℕ → List ℕ → Type 0
 HasFault kind place bytes = (2 ^ 40 < length bytes × (kind ≡ LeftOut TooLarge) × (place ≡ 2 ^ 40))
     ⊎ (length bytes ≤ 2 ^ 40 × IsFirstFault bytes kind place)
 
--- The answer to the bytes that were to come, where they are told (a slice tells them, a file doesn't), and to
--- what the output held and holds, where that is told:
--- the normal text went out, or nothing did, or a front of the text whose length is counted.
+-- What `plain` returns for the bytes to come, if they are revealed: a slice reveals them, a file doesn't. The
+-- output holds `old` before and `new` after, if it reveals that. The normal text was written, or nothing, or a
+-- prefix of the text whose length is counted.
 abbrev pub Plain : Option (List ℕ) → Option (List ℕ) → Option (List ℕ) → Result Unit FileFault → Type 0
 Plain coming old new (Ok _) = (text : List ℕ) × IfSome coming (HasPlain text) × Appends old new text
 Plain coming old new (Err (Text File kind place)) = IfSome coming (HasFault kind place) × Keeps old new
@@ -46,8 +46,7 @@ abbrev pub is_output_fault : Result Unit FileFault → Bool
 is_output_fault (Err (Device Output written)) = true
 is_output_fault _ = false
 
--- Where each read fails (`true`) the answer is the file's fault, and where none does it isn't; but memory may run
--- out first.
+-- If each read fails (`true`), the result is the file's fault. If none does, it isn't. Memory may run out first.
 abbrev pub FailsAs : Result Unit FileFault → Bool → Type 0
 FailsAs (Err Memory) each = Unit {0}
 FailsAs result each = is_file_fault result ≡ each

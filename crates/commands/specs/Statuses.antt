@@ -5,22 +5,23 @@ use Rattle.express_syntax.specs.declared.fault.SchemaFault.TheVariants as schema
 use Rattle.files.specs.declared.fault.FileFault.{FileFault}
 use Rattle.files.specs.declared.fault.FileFault.TheVariants.{Text, Device, Memory}
 use Rattle.conformance.specs.declared.finding.Finding.{Finding}
-use Rattle.schema_rules.specs.declared.finding.RuleFinding.{RuleFinding}
+use Rattle.schema_constraints.specs.declared.finding.RuleFinding.{RuleFinding}
 use Rattle.reports.specs.declared.report.Report.{Report}
 
--- the status where a file isn't read or written
+-- the status for the fault of a file
 abbrev pub fault_status : FileFault → ℕ
 fault_status (Text role kind place) = 2
 fault_status (Device role written) = 4
 fault_status Memory = 5
 
--- the status for a fault of a schema
+-- the status for the fault of a schema
 abbrev pub schema_status : SchemaFault → ℕ
 schema_status (schemas.Text kind place) = 2
 schema_status (schemas.Name kind name) = 2
 schema_status schemas.Memory = 5
 
--- the status where a file is checked: 1 where it breaks its schema, in an instance alone or in a rule of the whole population
+-- the status for findings: 1 if the file breaks its schema, in an instance alone or in a rule of the whole
+-- population
 abbrev pub findings_status : List Finding → List RuleFinding → ℕ
 findings_status [] [] = 0
 findings_status [] (finding ∷ more) = 1

@@ -1,4 +1,4 @@
-//! Whether a file conforms to a schema.
+//! The command `check`: whether a file conforms to a schema.
 
 ghost use Rattle.std.specs.Prelude.{◌≡◌, ◌⊎◌, false, true};
 ghost use Rattle.files.specs.Stores.{reader_seen};
@@ -10,14 +10,14 @@ use crate::ending::{BROKEN, DONE};
 use crate::fault::{tell_fault, tell_report};
 use checking::check::check;
 use devices::device::{Sink, Source};
-use faults::fault::unread;
 use files::fault::{LIMIT, Role};
 use files::read::read_whole;
+use reports::fault::unread;
 use reports::report::Report;
 use std::alloc::Global;
 use std::hash::RandomState;
 
-// The status for a report: whether the file breaks its schema.
+// Returns the status for a report: `BROKEN` if it has findings.
 fn status_of_report(report: &Report<'_>) -> u8
     ensures { result ≡ report_status report.now }
 {
@@ -28,13 +28,18 @@ fn status_of_report(report: &Report<'_>) -> u8
     }
 }
 
-/// Checks a file against a schema, prints the report on `out`, and answers the status: 0, or 1
-/// where there are findings. Both are read to their ends before the first byte is written, the
-/// schema first.
+/// Checks a file against a schema and prints the report on `out`. Returns the exit status: 0, or 1
+/// if there are findings. The schema, then the file, is read to its end before the first byte is
+/// written.
 ///
-/// Where one of them isn't read, the line of the fault stands on `err` instead, and the status is 2
-/// for the text of either or a name of the schema, 4 for a device, and 5 where memory runs out.
-/// Names are hashed by these keys.
+/// If the file isn't checked, prints the line of the fault on `err` and nothing on `out`. The
+/// status is then:
+///
+/// - 2 if the text of schema or file has a fault, or a name in the schema is at fault;
+/// - 4 if a device fails;
+/// - 5 if memory runs out.
+///
+/// If printing fails, the status is 4. Names are hashed with `keys`.
 pub fn run_check<S: Source, F: Source, O: Sink, E: Sink>(
     alloc: Global,
     keys: RandomState,
@@ -47,13 +52,13 @@ pub fn run_check<S: Source, F: Source, O: Sink, E: Sink>(
         (reader_seen S.to_come S.fails schema.old) (reader_seen F.to_come F.fails file.old)
         (exit_of (output_seen O.held O.has_failed out.old out.new)
         (output_seen E.held E.has_failed err.old err.new) result) }
-    // A device's status comes only where one fails in the run, if none had before.
+    // The status is 4 only if a device fails in the run, unless one had failed before.
     ensures device { result ≡ 4
         → S.has_failed schema.old ≡ false → F.has_failed file.old ≡ false
         → O.has_failed out.old ≡ false → E.has_failed err.old ≡ false
         → (S.has_failed schema.new ≡ true) ⊎ (F.has_failed file.new ≡ true)
         ⊎ (O.has_failed out.new ≡ true) ⊎ (E.has_failed err.new ≡ true) }
-    // Where a source fails in the run, the status says so.
+    // If a source fails in the run, the status is 4.
     ensures schema_failed { S.has_failed schema.old ≡ false → S.has_failed schema.new ≡ true
         → result ≡ 4 }
     ensures file_failed { F.has_failed file.old ≡ false → F.has_failed file.new ≡ true

@@ -3,14 +3,14 @@
 ghost use Rattle.std.specs.Prelude.{◌≡◌, ◌⊎◌, ℕ, List, IfOk, false, true};
 ghost use Rattle.std.specs.Io.KnownBytes.{Keeps};
 ghost use Rattle.command_line.specs.Commands.{AsksNothing, texts};
-ghost use Rattle.command_line.specs.AskedMerges.{text_of};
+ghost use Rattle.command_line.specs.steps.AskedMerges.{text_of};
 ghost use Rattle.files.specs.Lines.{line_of};
 ghost use Rattle.files.specs.Stores.{Opens, file_seen};
 ghost use Rattle.files.specs.declared.fault.FileFault.TheVariants.{Device};
 ghost use Rattle.files.specs.declared.fault.Role.TheVariants.{File};
-ghost use Rattle.pin_choices.specs.Chosen.{choice_of};
+ghost use Rattle.merge_choices.specs.ChosenEntities.{choice_of};
 ghost use Rattle.commands.specs.CommandLines.{AsksToWrite, Does, OpensAsked, Runs, written_at};
-ghost use Rattle.commands.specs.ComputedRequests.{
+ghost use Rattle.commands.specs.steps.ComputedRequests.{
   IsApart,
   IsWritten,
   OpensUnlessMemory,
@@ -29,25 +29,25 @@ use crate::ending::{DONE, USAGE, finish, print, report};
 use crate::plain::plain;
 use crate::shrink::run_shrink;
 use crate::verify::run_verify;
-use command_line::merging::{ShrinkRequest, VerifyRequest, merged_names};
-use command_line::usage::{Refusal, Request, read_words};
+use command_line::command_words::{Refusal, Request, read_words};
+use command_line::merge_words::{ShrinkRequest, VerifyRequest, merged_names};
 use devices::device::Sink;
 use files::fault::{FileFault, Role};
 use files::store::Store;
-use pin_choices::choice::{Choice, Names};
+use merge_choices::choice::{Choice, Names};
 use std::alloc::{AllocError, Global};
 use std::hash::RandomState;
 
-/// Prints why nothing is done, and answers the status: a text that was asked for on `out`, and
-/// everything else on `err`.
+/// Prints why no command runs, and returns the exit status. A text that was requested is printed on
+/// `out`, everything else on `err`.
 pub fn refuse<O: Sink, E: Sink>(refusal: Refusal, out: &mut O, err: &mut E) -> u8
     ensures status { IsStatus result }
     ensures refuses { Refuses refusal
         (exit_of (output_seen O.held O.has_failed out.old out.new)
         (output_seen E.held E.has_failed err.old err.new) result) }
-    // Nothing goes out but where a text was asked for, and where a device fails.
+    // Nothing is printed on `out` unless a text was requested or a device fails.
     ensures unwritten { (result ≡ 0) ⊎ (result ≡ 4) ⊎ Keeps (O.held out.old) (O.held out.new) }
-    // Where an output fails, the status says so.
+    // If an output fails, the status is 4.
     ensures out_failed { O.has_failed out.old ≡ false → O.has_failed out.new ≡ true → result ≡ 4 }
     ensures err_failed { E.has_failed err.old ≡ false → E.has_failed err.new ≡ true → result ≡ 4 }
 {
@@ -58,8 +58,8 @@ pub fn refuse<O: Sink, E: Sink>(refusal: Refusal, out: &mut O, err: &mut E) -> u
     }
 }
 
-/// Prints that no file can be read, and answers the status: where the system gives no keys by which
-/// names can be hashed.
+/// Prints that no file can be read, and returns the exit status 4. This is for a system that gives
+/// no keys to hash names with.
 pub fn refuse_to_read<E: Sink>(err: &mut E) -> u8
     ensures { Prints (output_seen E.held E.has_failed err.old err.new)
         (line_of (Device File 0)) 4 result }
@@ -73,7 +73,7 @@ pub fn refuse_to_read<E: Sink>(err: &mut E) -> u8
     )
 }
 
-// The entities that are chosen: those of NAMES, or the usual ones.
+// Returns the choice of entity data types: those of NAMES, if any, otherwise the usual ones.
 fn chosen(alloc: Global, merge: Option<&str>, strict: bool) -> Result<Choice, AllocError>
     ensures names { IfOk result (λ choice. choice_of choice ≡ asked_choice (text_of merge.entry)) }
     ensures strict { IfOk result (λ choice. choice.strict ≡ strict) }
@@ -85,7 +85,7 @@ fn chosen(alloc: Global, merge: Option<&str>, strict: bool) -> Result<Choice, Al
     Ok(Choice { names, strict })
 }
 
-// Merges the file that is asked for by this choice, and answers the status.
+// Merges the requested file under this choice, and returns the exit status.
 fn shrink_by<'p, S: Store<'p>, O: Sink, E: Sink>(
     alloc: Global,
     keys: RandomState,
@@ -100,7 +100,8 @@ fn shrink_by<'p, S: Store<'p>, O: Sink, E: Sink>(
         (choice_of choice.now) choice.now.strict
         (file_seen S.contents S.fails store.old asked.entry.schema.now)
         (file_seen S.contents S.fails store.old asked.entry.file.now)
-        (written_at (file_seen S.contents S.fails store.old) (S.contents store.new) asked.entry.output.now)
+        (written_at (file_seen S.contents S.fails store.old)
+        (S.contents store.new) asked.entry.output.now)
         (written_at (file_seen S.contents S.fails store.old) (S.contents store.new)
         asked.entry.certificate.now)
         (exit_of (output_seen O.held O.has_failed out.old out.new)
@@ -130,7 +131,7 @@ fn shrink_by<'p, S: Store<'p>, O: Sink, E: Sink>(
     status
 }
 
-// Merges the file that is asked for, and answers the status.
+// Merges the requested file, and returns the exit status.
 fn shrink_asked<'p, S: Store<'p>, O: Sink, E: Sink>(
     alloc: Global,
     keys: RandomState,
@@ -144,7 +145,8 @@ fn shrink_asked<'p, S: Store<'p>, O: Sink, E: Sink>(
         (asked_choice (text_of asked.entry.merge)) asked.entry.strict
         (file_seen S.contents S.fails store.old asked.entry.schema.now)
         (file_seen S.contents S.fails store.old asked.entry.file.now)
-        (written_at (file_seen S.contents S.fails store.old) (S.contents store.new) asked.entry.output.now)
+        (written_at (file_seen S.contents S.fails store.old)
+        (S.contents store.new) asked.entry.output.now)
         (written_at (file_seen S.contents S.fails store.old) (S.contents store.new)
         asked.entry.certificate.now)
         (exit_of (output_seen O.held O.has_failed out.old out.new)
@@ -161,7 +163,7 @@ fn shrink_asked<'p, S: Store<'p>, O: Sink, E: Sink>(
     }
 }
 
-// Verifies the output that is asked for, and answers the status.
+// Verifies the requested output, and returns the exit status.
 fn verify_asked<'p, S: Store<'p>, O: Sink, E: Sink>(
     alloc: Global,
     keys: RandomState,
@@ -202,7 +204,7 @@ fn verify_asked<'p, S: Store<'p>, O: Sink, E: Sink>(
     )
 }
 
-// Does what is asked for, and answers the status.
+// Runs a request, and returns the exit status.
 fn run<'p, S: Store<'p>, O: Sink, E: Sink>(
     alloc: Global,
     keys: RandomState,
@@ -237,20 +239,25 @@ fn run<'p, S: Store<'p>, O: Sink, E: Sink>(
     }
 }
 
-/// Runs the command line of these words, the program's own name first, and answers the exit status:
-/// 0 where all is done, 1 where a file breaks its schema or parts of the schema of a strict choice
-/// aren't checked, 2 where the text of a file or a schema can't be read or a chosen name is no entity,
-/// 3 where the words are wrong, 4 where a device fails, 5 where memory runs out, and 6 where a
-/// certificate is refused.
+/// Runs the command line with the arguments `words`, the program's own name first. Returns the exit
+/// status:
 ///
-/// `shrink` alone writes files, the smaller one and the certificate, each made at its first write.
+/// - 0 if everything is done;
+/// - 1 if a file breaks its schema, or a strict choice refuses a schema with unchecked parts;
+/// - 2 if the text of a file or schema can't be read, or a name in the schema or a chosen name is
+///   at fault;
+/// - 3 if the arguments are wrong;
+/// - 4 if a device fails;
+/// - 5 if memory runs out;
+/// - 6 if a certificate is refused.
 ///
-/// A fault is a line on `err`. Where that can't be printed, or the text of `--help` or `--version`
-/// can't, nothing more is.
-/// Names of instances are hashed by these keys.
+/// Only `shrink` writes files: the smaller file and the certificate, each created at its first
+/// write. The findings of `check` and `shrink` are printed on `out`, and so are the parts that a
+/// strict choice refuses, with a line on `err`. Every other fault is reported on `err`. If a report
+/// on `err`, or the text of `--help` or `--version`, can't be printed, nothing more is printed.
 ///
-/// Where no output fails or has failed, the store tells that no read fails, and its writers never do,
-/// the status isn't 4.
+/// The status isn't 4 if no output fails or has failed before, the store reveals that no read
+/// fails, and none of its writers ever fails. Names are hashed with `keys`.
 pub fn run_command<'p, S: Store<'p>, O: Sink, E: Sink>(
     alloc: Global,
     keys: RandomState,
@@ -263,12 +270,12 @@ pub fn run_command<'p, S: Store<'p>, O: Sink, E: Sink>(
         (file_seen S.contents S.fails store.old) (S.contents store.new)
         (exit_of (output_seen O.held O.has_failed out.old out.new)
         (output_seen E.held E.has_failed err.old err.new) result) }
-    // No other file changes than those that a smaller one is asked for by.
+    // No file changes, except those that the arguments name as OUT and CERT of `shrink`.
     ensures kept { (path : List ℕ) → (AsksToWrite (texts words.now) path → ⊥)
         → S.contents store.new path ≡ S.contents store.old path }
-    // Just the files are opened that the words ask for, each once, and those to be written are kept,
-    // the output first; or none, where memory runs out before. Nothing is done to the store where the
-    // words ask for none.
+    // Exactly the files that the arguments name are opened, each once, and those to be written are
+    // taken back, the output first. If memory runs out before, none is opened. If the arguments
+    // request nothing, the store is unchanged.
     ensures opened { OpensAsked (texts words.now) (S.opened store.old) (S.opened store.new)
         (output_seen E.held E.has_failed err.old err.new) result }
     ensures unopened { AsksNothing (texts words.now) → store.new ≡ store.old }

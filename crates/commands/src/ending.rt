@@ -9,28 +9,29 @@ ghost use Rattle.commands.specs.Statuses.{fault_status};
 use devices::device::{Failed, Sink};
 use files::fault::{FileFault, print_line};
 
-/// The status where all is done.
+/// The exit status if everything is done.
 pub const DONE: u8 = 0;
 
-/// The status where a file breaks its schema, or a strict choice refuses a schema.
+/// The exit status if a file breaks its schema, or a strict choice refuses a schema.
 pub const BROKEN: u8 = 1;
 
-/// The status where the text of a file or a schema can't be read.
+/// The exit status if the text of a file or schema can't be read, or a name in the schema or a
+/// chosen name is at fault.
 pub const TEXT: u8 = 2;
 
-/// The status where the words of the command line are wrong.
+/// The exit status if the arguments of the command line are wrong.
 pub const USAGE: u8 = 3;
 
-/// The status where a device fails.
+/// The exit status if a device fails.
 pub const DEVICE: u8 = 4;
 
-/// The status where memory runs out.
+/// The exit status if memory runs out.
 pub const MEMORY: u8 = 5;
 
-/// The status where a certificate is refused.
+/// The exit status if a certificate is refused.
 pub const REFUSED: u8 = 6;
 
-/// The exit status for the fault of a file.
+/// Returns the exit status for the fault of a file.
 pub fn status_of(fault: &FileFault) -> u8
     ensures { result ≡ fault_status fault.now }
 {
@@ -41,7 +42,7 @@ pub fn status_of(fault: &FileFault) -> u8
     }
 }
 
-// Sends all of the text.
+// Writes all of `text`.
 fn send<S: Sink>(out: &mut S, text: &str) -> Result<(), Failed>
     ensures sent { MatchResult result
         (λ _. Appends (S.held out.old) (S.held out.new) text.now)
@@ -57,8 +58,7 @@ fn send<S: Sink>(out: &mut S, text: &str) -> Result<(), Failed>
     Ok(())
 }
 
-/// Prints the text, and answers the status: this one, or the device's where the text can't be
-/// printed.
+/// Prints `text` on `out`. Returns `status`, or 4 if the text can't be printed.
 pub fn print<S: Sink>(out: &mut S, text: &str, status: u8) -> u8
     ensures { Prints (output_seen S.held S.has_failed out.old out.new)
         text.now status result }
@@ -69,8 +69,8 @@ pub fn print<S: Sink>(out: &mut S, text: &str, status: u8) -> u8
     }
 }
 
-/// Prints the line of a file's fault, and answers its status, or the device's where the line can't be
-/// printed.
+/// Prints the line of a file's fault on `err`. Returns the status for the fault, or 4 if the line
+/// can't be printed.
 pub fn report<E: Sink>(fault: FileFault, err: &mut E) -> u8
     ensures { Prints (output_seen E.held E.has_failed err.old err.new)
         (line_of fault) (fault_status fault) result }
@@ -81,7 +81,8 @@ pub fn report<E: Sink>(fault: FileFault, err: &mut E) -> u8
     }
 }
 
-/// Ends a run for what a command came to, and answers the status.
+/// Returns 0 for `Ok`. For a fault, prints its line on `err` and returns its status, or 4 if the
+/// line can't be printed.
 pub fn finish<E: Sink>(outcome: Result<(), FileFault>, err: &mut E) -> u8
     ensures ends { Ends outcome
         (output_seen E.held E.has_failed err.old err.new) result }

@@ -1,4 +1,4 @@
-//! Why a file isn't checked, merged or verified: what is printed, and the status.
+//! Why a file isn't checked, merged or verified: what is printed, and the exit status.
 
 ghost use Rattle.std.specs.Prelude.{
   ◌≡◌,
@@ -11,7 +11,7 @@ ghost use Rattle.std.specs.Prelude.{
   length,
 };
 ghost use Rattle.devices.specs.Emits.{Emits};
-ghost use Rattle.devices.specs.Prints as printers;
+ghost use Rattle.devices.specs.steps.Prints as printers;
 ghost use Rattle.reports.specs.Lines.{report_text, unchecked_line};
 ghost use Rattle.reports.specs.MergeLines.{strict_line};
 ghost use Rattle.reports.specs.SchemaLines.{schema_line};
@@ -29,17 +29,17 @@ use conformance::finding::Finding;
 use devices::device::{Sink, WriteFault};
 use devices::printer::Printer;
 use express_syntax::fault::SchemaFault;
-use faults::fault::Fault;
-use faults::refusal::Refusal;
 use files::fault::{FileFault, Role};
-use reports::merge::{print_findings_of, print_strict, print_unchecked_parts};
-use reports::print::print_report;
+use reports::fault::Fault;
+use reports::merge_lines::{print_findings_of, print_strict, print_unchecked_parts};
+use reports::refusal::Refusal;
 use reports::report::Report;
+use reports::report_lines::print_report;
 use reports::schema_fault::print_schema_fault;
-use schema_parts::list::Unchecked;
-use schema_rules::finding::RuleFinding;
+use schema_constraints::finding::RuleFinding;
+use schema_unchecked_declarations::list::Unchecked;
 
-// The status for a schema's fault.
+// Returns the exit status for a schema's fault.
 fn status_of_schema(fault: &SchemaFault) -> u8
     ensures { result ≡ schema_status fault.now }
 {
@@ -50,8 +50,8 @@ fn status_of_schema(fault: &SchemaFault) -> u8
     }
 }
 
-// Prints the line of a schema's fault, and answers its status, or the device's where the line can't
-// be printed.
+// Prints the line of a schema's fault. Returns the status for the fault, or 4 if the line can't be
+// printed.
 fn tell_schema<E: Sink>(fault: &SchemaFault, err: &mut E) -> u8
     ensures { Prints (output_seen E.held E.has_failed err.old err.new)
         (schema_line fault.now) (schema_status fault.now) result }
@@ -62,7 +62,8 @@ fn tell_schema<E: Sink>(fault: &SchemaFault, err: &mut E) -> u8
     }
 }
 
-/// Prints a report on `out`, and answers this status; or tells that the output failed.
+/// Prints a report on `out` and returns `status`. If `out` fails, reports that on `err` and returns
+/// 4.
 pub fn tell_report<O: Sink, E: Sink>(found: &Report<'_>, status: u8, out: &mut O, err: &mut E) -> u8
     ensures { EndsAs (on_output (report_text found.now) status)
         (exit_of (output_seen O.held O.has_failed out.old out.new)
@@ -74,7 +75,7 @@ pub fn tell_report<O: Sink, E: Sink>(found: &Report<'_>, status: u8, out: &mut O
     }
 }
 
-// Prints that so many parts of a schema aren't checked.
+// Prints that `count` parts of a schema aren't checked, and returns the exit status.
 fn refuse_parts<E: Sink>(count: u64, err: &mut E) -> u8
     ensures { Prints (output_seen E.held E.has_failed err.old err.new)
         (strict_line count) 1 result }
@@ -85,10 +86,11 @@ fn refuse_parts<E: Sink>(count: u64, err: &mut E) -> u8
     }
 }
 
-// Prints the parts of a schema that a strict choice refuses, on `out`, and then on `err` how many
-// there are; or tells that the output failed.
+// Prints the parts of a schema that a strict choice refuses on `out`, then their number on `err`.
+// If `out` fails, reports that on `err` instead.
 fn tell_parts<O: Sink, E: Sink>(parts: &Vec<Unchecked>, out: &mut O, err: &mut E) -> u8
-    ensures { EndsAs (on_both (flat_map unchecked_line parts.now.items) (strict_line (length parts.now.items)) 1)
+    ensures { EndsAs (on_both (flat_map unchecked_line parts.now.items)
+        (strict_line (length parts.now.items)) 1)
         (exit_of (output_seen O.held O.has_failed out.old out.new)
         (output_seen E.held E.has_failed err.old err.new) result) }
 {
@@ -98,7 +100,7 @@ fn tell_parts<O: Sink, E: Sink>(parts: &Vec<Unchecked>, out: &mut O, err: &mut E
     }
 }
 
-// Prints what is found of a file of this role.
+// Prints the findings of a file in this role, and returns the exit status.
 fn tell_findings<E: Sink>(
     role: Role,
     findings: &[Finding],
@@ -114,7 +116,7 @@ fn tell_findings<E: Sink>(
     }
 }
 
-// A line of the certificate that no certificate has there.
+// Prints that the certificate has a bad line.
 fn print_bad_line<E: Sink>(printer: &mut Printer, err: &mut E, line: u64)
     ensures { printers.Prints E.held E.has_failed err.old err.new printer.old printer.new
         (codes "C1 BadText at line " ++ decimal line) }
@@ -124,7 +126,7 @@ fn print_bad_line<E: Sink>(printer: &mut Printer, err: &mut E, line: u64)
     printer.print(err, digits.format(line).as_bytes());
 }
 
-// What is wrong with a certificate.
+// Prints why a certificate is refused.
 fn print_refusal<E: Sink>(printer: &mut Printer, err: &mut E, refusal: Refusal)
     ensures { printers.Prints E.held E.has_failed err.old err.new printer.old printer.new
         (refusal_text refusal) }
@@ -139,7 +141,7 @@ fn print_refusal<E: Sink>(printer: &mut Printer, err: &mut E, refusal: Refusal)
     }
 }
 
-// The line of what is wrong with a certificate.
+// Prints the line that reports why a certificate is refused.
 fn print_refusal_line<E: Sink>(err: &mut E, refusal: Refusal) -> Result<(), WriteFault>
     ensures emits { Emits (E.held err.old) (E.held err.new) (refusal_line refusal) result }
     ensures failed { E.has_failed err.old ≡ false → E.has_failed err.new ≡ is_err result }
@@ -151,7 +153,7 @@ fn print_refusal_line<E: Sink>(err: &mut E, refusal: Refusal) -> Result<(), Writ
     printer.finish(err)
 }
 
-// Tells what is wrong with a certificate.
+// Reports why a certificate is refused, and returns the exit status.
 fn tell_refusal<E: Sink>(refusal: Refusal, err: &mut E) -> u8
     ensures { Prints (output_seen E.held E.has_failed err.old err.new)
         (refusal_line refusal) 6 result }
@@ -162,12 +164,17 @@ fn tell_refusal<E: Sink>(refusal: Refusal, err: &mut E) -> u8
     }
 }
 
-/// Tells why a file isn't checked, merged or verified, and answers the status: 1 for what is found of a
-/// file and for parts of a schema that aren't checked, 2 for a text, a name of the schema or one that
-/// is chosen and no entity, 4 for a device, 5 for want of memory and 6 for a certificate.
+/// Reports why a file isn't checked, merged or verified. Returns the exit status:
 ///
-/// The report of a file that is merged stands on `out`, and so do the parts, with a line on `err`; all
-/// else stands on `err` alone. Where that can't be printed the status is the device's.
+/// - 1 for findings, and for a strict choice with unchecked parts;
+/// - 2 for the text of a file or schema, a name in the schema, or a chosen name that isn't an
+///   entity data type of it;
+/// - 4 for a device;
+/// - 5 for out of memory;
+/// - 6 for a certificate.
+///
+/// The report on a file that is merged is printed on `out`. So are the unchecked parts, followed by
+/// a line on `err`. Everything else is printed on `err` alone. If printing fails, the status is 4.
 pub fn tell_fault<O: Sink, E: Sink>(fault: &Fault<'_>, out: &mut O, err: &mut E) -> u8
     ensures { EndsAs (fault_ending fault.now)
         (exit_of (output_seen O.held O.has_failed out.old out.new)

@@ -18,7 +18,7 @@ ghost use Rattle.commands.specs.RunLaws.{
 
 use files::store::Store;
 
-/// A run does what its words ask for, by what the files of the store hold.
+/// A run does what its arguments request, with the files that the store holds.
 pub fn what_is_asked_for_is_run<'p, S: Store<'p>>()
     ensures plain { PlainIsRun (writers_of S.Writer.held S.Writer.has_failed) }
     ensures check { CheckIsRun (writers_of S.Writer.held S.Writer.has_failed) }
@@ -26,9 +26,10 @@ pub fn what_is_asked_for_is_run<'p, S: Store<'p>>()
     ensures verify { VerifyIsRun (writers_of S.Writer.held S.Writer.has_failed) }
 {}
 
-/// The status of a run is known, and tells whether an output failed. Where it is a device's, one has
-/// failed, or a file that was asked for can fail; or, where a smaller file was asked for, a writer of
-/// the store has failed.
+/// The status of a run is one of the seven, and it is 4 if an output fails. If it is 4, one of
+/// these holds: an output has failed, a file that was requested can fail, or a smaller file was
+/// requested and a writer of the store has failed. Nothing is printed on the output unless the
+/// status is 0, 1 or 4.
 pub fn outputs_are_told<'p, S: Store<'p>>()
     ensures status { StatusIsKnown (writers_of S.Writer.held S.Writer.has_failed) }
     ensures unwritten { NothingWritten (writers_of S.Writer.held S.Writer.has_failed) }
@@ -37,7 +38,7 @@ pub fn outputs_are_told<'p, S: Store<'p>>()
     ensures error { ErrorIsTold (writers_of S.Writer.held S.Writer.has_failed) }
 {}
 
-/// The status of a run tells whether each read of a file fails that has to be read.
+/// The status of a run reports it if each read of a file fails that has to be read.
 pub fn files_are_told<'p, S: Store<'p>>()
     ensures plain { PlainFileIsTold (writers_of S.Writer.held S.Writer.has_failed) }
     ensures schema { CheckSchemaIsTold (writers_of S.Writer.held S.Writer.has_failed) }

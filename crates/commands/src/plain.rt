@@ -1,4 +1,4 @@
-//! The normal text of a file.
+//! The command `plain`: the normal text of a file.
 
 ghost use Rattle.std.specs.Prelude.{◌≡◌, false, IfSome};
 ghost use Rattle.commands.specs.Plain.{FailsAs, Plain, is_file_fault, is_output_fault};
@@ -11,26 +11,30 @@ use std::hash::RandomState;
 use step_exchange::exchange::read_exchange;
 use step_exchange::write::write_plain;
 
-/// Writes the normal text of what the source's bytes read as. All of them are read before the first
-/// byte is written. The source plays the role `File`, and the output `Output`.
+/// Reads `source` to its end, and writes the normal text of its exchange structure to `out`. All
+/// bytes are read before the first byte is written. Names are hashed with `keys`.
 ///
-/// `Text` comes where the bytes are no exchange structure, and for `TooLarge` where they are more
-/// than 2^40; `Device` where the source or the output fails, and `Memory` where memory runs out.
-/// Names are hashed by these keys.
+/// # Errors
+/// Faults carry the role `File` for the source and `Output` for `out`.
+///
+/// - `Text` if the bytes aren't an exchange structure, or (`TooLarge`) are more than 2^40.
+/// - `Device` if source or output fails.
+/// - `Memory` if memory runs out.
 pub fn plain<S: Source, O: Sink>(
     alloc: Global,
     keys: RandomState,
     source: &mut S,
     out: &mut O,
 ) -> Result<(), FileFault>
-    // What went out is the normal text, or nothing, or a front of it.
+    // The whole normal text was written, or nothing, or a prefix of it.
     ensures plain { Plain (S.to_come source.old) (O.held out.old) (O.held out.new) result }
-    // The fault is the file's exactly where the source failed, and the output's where that did.
+    // The fault is the file's exactly if the source failed, and the output's exactly if that
+    // failed.
     ensures file_fault { S.has_failed source.old ≡ false
         → S.has_failed source.new ≡ is_file_fault result }
     ensures output_fault { O.has_failed out.old ≡ false
         → O.has_failed out.new ≡ is_output_fault result }
-    // A source that can't fail has no fault, and one that can't but fail has one.
+    // A source that can't fail has no fault. One that always fails has one.
     ensures told { IfSome (S.fails source.old) (FailsAs result) }
 {
     let bytes = match read_whole(alloc, source, LIMIT) {

@@ -1,7 +1,7 @@
-//! A smaller file, in which value-equal instances are one, and its certificate.
+//! The command `shrink`: a smaller file, with its value-equal instances merged, and its certificate.
 
 ghost use Rattle.std.specs.Prelude.{◌≡◌, ◌⊎◌, false, true};
-ghost use Rattle.pin_choices.specs.Chosen.{choice_of};
+ghost use Rattle.merge_choices.specs.ChosenEntities.{choice_of};
 ghost use Rattle.reports.specs.MergeLines.{merge_text};
 ghost use Rattle.files.specs.Stores.{reader_seen};
 ghost use Rattle.commands.specs.Endings.{EndsAs, exit_of, on_output, output_seen};
@@ -10,19 +10,20 @@ ghost use Rattle.commands.specs.Merges.{RunsShrink};
 use crate::ending::{DONE, report};
 use crate::fault::tell_fault;
 use devices::device::{Sink, Source};
-use faults::fault::unread;
 use files::fault::{FileFault, LIMIT, Role};
 use files::read::read_whole;
-use pin_choices::choice::Choice;
-use reports::merge::print_merge;
+use merge_choices::choice::Choice;
+use reports::fault::unread;
+use reports::merge_lines::print_merge;
 use shrinking::shrink::shrink;
 use shrinking::summary::Summary;
 use std::alloc::Global;
 use std::hash::RandomState;
 
-// Prints what is said of a file that is merged, on `out`; or tells that the output failed.
+// Prints the report on a merge on `out`. If `out` fails, reports that on `err`.
 fn tell_merge<O: Sink, E: Sink>(summary: &Summary<'_>, out: &mut O, err: &mut E) -> u8
-    ensures { EndsAs (on_output (merge_text summary.now.report summary.now.kept summary.now.rounds) 0)
+    ensures { EndsAs (on_output (merge_text summary.now.report summary.now.kept
+        summary.now.rounds) 0)
         (exit_of (output_seen O.held O.has_failed out.old out.new)
         (output_seen E.held E.has_failed err.old err.new) result) }
 {
@@ -32,16 +33,24 @@ fn tell_merge<O: Sink, E: Sink>(summary: &Summary<'_>, out: &mut O, err: &mut E)
     }
 }
 
-/// Merges a file by a schema and a choice of its entities, writes what comes of it to `output` and
-/// its certificate to `certificate`, prints the report and the numbers of the merge on `out`, and
-/// answers the status, 0. Schema and file are read to their ends before the first byte is written.
+/// Merges a file according to a schema and a choice of its entity data types. Writes the smaller
+/// file to `output`, its certificate to `certificate`, and the report and the numbers of the merge
+/// to `out`. Returns the exit status 0. Schema and file are read to their ends before the first
+/// byte is written.
 ///
-/// Where the file breaks its schema the report stands on `out`, and the status is 1. Where the choice
-/// is strict and parts of the schema aren't checked, these stand on `out`, and the status is 1 with a
-/// line on `err`. In all other cases the line of the fault stands on `err` alone, and the status is 2
-/// for the text of either, a name of the schema or one that is chosen and no entity, 4 for a device,
-/// and 5 where memory runs out. Nothing is written but where the status is 0, or where the output, the
-/// certificate or `out` fails. Names are hashed by these keys.
+/// If the file isn't merged, the status is:
+///
+/// - 1 if the file breaks its schema, with the report on `out`;
+/// - 1 if the choice is strict and parts of the schema aren't checked, with these parts on `out`
+///   and a line on `err`;
+/// - 2 if the text of schema or file has a fault, a name in the schema is at fault, or a chosen
+///   name isn't an entity data type of it;
+/// - 4 if a device fails;
+/// - 5 if memory runs out.
+///
+/// For 2, 4 and 5, the line of the fault is printed on `err`. Nothing is written to `output` and
+/// `certificate` unless the status is 0, or one of them or `out` fails. Names are hashed with
+/// `keys`.
 pub fn run_shrink<S: Source, F: Source, W: Sink, C: Sink, O: Sink, E: Sink>(
     alloc: Global,
     keys: RandomState,
@@ -59,7 +68,7 @@ pub fn run_shrink<S: Source, F: Source, W: Sink, C: Sink, O: Sink, E: Sink>(
         (output_seen C.held C.has_failed certificate.old certificate.new)
         (exit_of (output_seen O.held O.has_failed out.old out.new)
         (output_seen E.held E.has_failed err.old err.new) result) }
-    // A device's status comes only where one fails in the run, if none had before.
+    // The status is 4 only if a device fails in the run, unless one had failed before.
     ensures device { result ≡ 4
         → S.has_failed schema.old ≡ false → F.has_failed file.old ≡ false
         → W.has_failed output.old ≡ false → C.has_failed certificate.old ≡ false
@@ -67,7 +76,7 @@ pub fn run_shrink<S: Source, F: Source, W: Sink, C: Sink, O: Sink, E: Sink>(
         → (S.has_failed schema.new ≡ true) ⊎ (F.has_failed file.new ≡ true)
         ⊎ (W.has_failed output.new ≡ true) ⊎ (C.has_failed certificate.new ≡ true)
         ⊎ (O.has_failed out.new ≡ true) ⊎ (E.has_failed err.new ≡ true) }
-    // Where a device fails in the run, the status says so.
+    // If a source, the output or the certificate fails in the run, the status is 4.
     ensures schema_failed { S.has_failed schema.old ≡ false → S.has_failed schema.new ≡ true
         → result ≡ 4 }
     ensures file_failed { F.has_failed file.old ≡ false → F.has_failed file.new ≡ true

@@ -1,7 +1,7 @@
-//! Whether a certificate proves that a file's smaller one is its least image.
+//! The command `verify`: whether a certificate proves that an output is a least image of a file.
 
 ghost use Rattle.std.specs.Prelude.{◌≡◌, ◌⊎◌, false, true};
-ghost use Rattle.pin_choices.specs.Chosen.{choice_of};
+ghost use Rattle.merge_choices.specs.ChosenEntities.{choice_of};
 ghost use Rattle.files.specs.Stores.{reader_seen};
 ghost use Rattle.reports.specs.MergeLines.{proof_text};
 ghost use Rattle.commands.specs.Endings.{EndsAs, exit_of, on_output, output_seen};
@@ -11,14 +11,14 @@ use crate::ending::{DONE, report};
 use crate::fault::tell_fault;
 use devices::device::{Sink, Source};
 use files::fault::{FileFault, Role};
-use pin_choices::choice::Choice;
-use reports::merge::print_proof;
+use merge_choices::choice::Choice;
+use reports::merge_lines::print_proof;
 use std::alloc::Global;
 use std::hash::RandomState;
 use verifying::proof::Proof;
 use verifying::sources::{read, verify_files};
 
-// Prints what is proved, on `out`; or tells that the output failed.
+// Prints the numbers of a proof on `out`. If `out` fails, reports that on `err`.
 fn tell_proof<O: Sink, E: Sink>(proof: &Proof, out: &mut O, err: &mut E) -> u8
     ensures { EndsAs (on_output (proof_text proof.now.instances proof.now.kept proof.now.rounds) 0)
         (exit_of (output_seen O.held O.has_failed out.old out.new)
@@ -30,15 +30,19 @@ fn tell_proof<O: Sink, E: Sink>(proof: &Proof, out: &mut O, err: &mut E) -> u8
     }
 }
 
-/// Verifies an output of a file by a schema, a choice of its entities and a certificate, prints what
-/// is proved on `out`, and answers the status, 0. All four are read to their ends, the schema first,
-/// then the file, the output and the certificate.
+/// Verifies an output of a file according to a schema, a choice of its entity data types and a
+/// certificate. Prints the numbers of the proof on `out` and returns the exit status 0. All four
+/// are read to their ends in this order: schema, file, output, certificate.
 ///
-/// Where nothing is proved lines on `err` say why, and nothing stands on `out`: the first of the four
-/// that isn't read, with status 2 where it has more than 2^40 bytes and 4 for its device; else the
-/// first fault of all that `verify` looks at, with status 2 for a text, a name of the schema or a
-/// chosen name that is no entity, 1 for what is found of the file or the output, and 6 for the
-/// certificate. Where memory runs out the status is 5. Names are hashed by these keys.
+/// If the output isn't proved, lines on `err` report why. A fault of reading comes first: status 2
+/// for more than 2^40 bytes, 4 for a device. Otherwise it is the first fault that `verify` returns:
+///
+/// - 1 if the file or the output has findings;
+/// - 2 if a text has a fault, a name in the schema is at fault, or a chosen name isn't an entity
+///   data type of it;
+/// - 6 if the certificate is refused.
+///
+/// The status is 5 if memory runs out, and 4 if printing fails. Names are hashed with `keys`.
 pub fn run_verify<S: Source, F: Source, W: Source, C: Source, O: Sink, E: Sink>(
     alloc: Global,
     keys: RandomState,
@@ -55,7 +59,7 @@ pub fn run_verify<S: Source, F: Source, W: Source, C: Source, O: Sink, E: Sink>(
         (reader_seen W.to_come W.fails output.old) (reader_seen C.to_come C.fails certificate.old)
         (exit_of (output_seen O.held O.has_failed out.old out.new)
         (output_seen E.held E.has_failed err.old err.new) result) }
-    // A device's status comes only where one fails in the run, if none had before.
+    // The status is 4 only if a device fails in the run, unless one had failed before.
     ensures device { result ≡ 4
         → S.has_failed schema.old ≡ false → F.has_failed file.old ≡ false
         → W.has_failed output.old ≡ false → C.has_failed certificate.old ≡ false
@@ -63,7 +67,7 @@ pub fn run_verify<S: Source, F: Source, W: Source, C: Source, O: Sink, E: Sink>(
         → (S.has_failed schema.new ≡ true) ⊎ (F.has_failed file.new ≡ true)
         ⊎ (W.has_failed output.new ≡ true) ⊎ (C.has_failed certificate.new ≡ true)
         ⊎ (O.has_failed out.new ≡ true) ⊎ (E.has_failed err.new ≡ true) }
-    // Where a source fails in the run, the status says so.
+    // If a source fails in the run, the status is 4.
     ensures schema_failed { S.has_failed schema.old ≡ false → S.has_failed schema.new ≡ true
         → result ≡ 4 }
     ensures file_failed { F.has_failed file.old ≡ false → F.has_failed file.new ≡ true

@@ -1,17 +1,17 @@
 -- Data types of one shape take values of one form.
 use Rattle.std.specs.Prelude.{◌≡◌, ℕ, zero, suc, Bool, true, List, [], ◌∷◌, ◌⊎◌}
 use Rattle.std.proofs.Common.{refl, sym, ◌∙◌, ap, subst, inl, inr}
-use Rattle.digraph.specs.Graphs.{Chain}
+use Rattle.graphs.specs.Graphs.{Chain}
 use Rattle.express_syntax.specs.Schemas.{Schema, TypeDeclaration, Entity, Underlying, enumeration, select, data_type, DataType, named, array, list, bag, set}
 use Rattle.express_syntax.specs.Schemas as schemas
 use Rattle.schema_semantics.specs.Names.{Name, types, entities, StandsFor, IsEntity, IsOrLeads, Renames}
-use Rattle.schema_semantics.specs.Shapes.{Shape, of_numbers, of_logicals, of_strings, of_binaries, of_items, of_instances, of_arrays, of_lists, of_collections, IsShapeAt, HasShape, AreOne, KeepsShapes, AreAlike}
+use Rattle.schema_semantics.specs.Shapes.{TypeShape, of_numbers, of_logicals, of_strings, of_binaries, of_items, of_instances, of_arrays, of_lists, of_collections, IsShapeAt, HasShape, AreOne, KeepsShapes, AreAlikeTypes}
 use Rattle.schema_semantics.proofs.Lists.{every-at}
 use Rattle.schema_semantics.proofs.Faults.{type-name}
 use Rattle.schema_semantics.proofs.Supertypes.{entity-name}
 use Rattle.conformance.specs.Bases.{Aggregate, Base, aggregate, Domain, base, base_of_underlying, IsDomain}
 use Rattle.conformance.specs.Bases as bases
-use Rattle.conformance.specs.Fitting.{has_no_order}
+use Rattle.conformance.specs.ParameterFits.{has_no_order}
 use Rattle.conformance.proofs.Returning.{same_aggregate}
 use Rattle.conformance.proofs.ValueForms.{Like, IsLike, like_back}
 
@@ -43,14 +43,14 @@ module _ (s : Schema) (d : Domain) (is : IsDomain s d) where
   behind_names k l (inr h) = along k h.0 l h.1
 
   -- what a data type of this shape is
-  abbrev IsOf : Shape → Base → Type 0
+  abbrev IsOf : TypeShape → Base → Type 0
   IsOf (of_arrays k) b = (a : Aggregate) × (b ≡ aggregate a) × (a.collection ≡ bases.array) × (a.element ≡ k)
   IsOf (of_lists k) b = (a : Aggregate) × (b ≡ aggregate a) × (a.collection ≡ bases.list) × (a.element ≡ k)
   IsOf (of_collections k) b =
       (a : Aggregate) × (b ≡ aggregate a) × (has_no_order a.collection ≡ true) × (a.element ≡ k)
   IsOf f b = (a : Aggregate) → b ≡ aggregate a → ⊥
 
-  plain : (b : Base) (f : Shape) → ((a : Aggregate) → b ≡ aggregate a → ⊥) → (f ≡ of_numbers) ⊎ ((f ≡ of_logicals)
+  plain : (b : Base) (f : TypeShape) → ((a : Aggregate) → b ≡ aggregate a → ⊥) → (f ≡ of_numbers) ⊎ ((f ≡ of_logicals)
       ⊎ ((f ≡ of_strings) ⊎ ((f ≡ of_binaries) ⊎ ((f ≡ of_items) ⊎ (f ≡ of_instances))))) → IsOf f b
   plain b f h (inl e) = subst (λ g. IsOf g b) (sym e) h
   plain b f h (inr (inl e)) = subst (λ g. IsOf g b) (sym e) h
@@ -63,7 +63,7 @@ module _ (s : Schema) (d : Domain) (is : IsDomain s d) where
       → (a : Aggregate) → d.of_name n ≡ aggregate a → ⊥
   by_name n b is h a e = h a (sym is ∙ e)
 
-  shape_at : (k : DataType) (f : Shape) → IsShapeAt s k f → IsOf f (base d k)
+  shape_at : (k : DataType) (f : TypeShape) → IsShapeAt s k f → IsOf f (base d k)
   shape_at schemas.integer f e = plain bases.integer f (λ a e. cc) (inl e)
   shape_at schemas.number f e = plain bases.number f (λ a e. cc) (inl e)
   shape_at (schemas.real w) f e = plain bases.number f (λ a e. cc) (inl e)
@@ -85,7 +85,7 @@ module _ (s : Schema) (d : Domain) (is : IsDomain s d) where
       plain (d.of_name n) f (by_name n (bases.select n) (of_type n (select h.0) h.1) (λ a e. cc))
       (inr (inr (inr (inr (inr e)))))
 
-  has_shape : (k : DataType) (f : Shape) → HasShape s k f → IsOf f (base d k)
+  has_shape : (k : DataType) (f : TypeShape) → HasShape s k f → IsOf f (base d k)
   has_shape k f (l, h, at) = subst (λ b. IsOf f b) (sym (behind_names k l h)) (shape_at l f at)
 
   module _ (R : DataType → DataType → Bool) (n : ℕ)
@@ -119,7 +119,7 @@ module _ (s : Schema) (d : Domain) (is : IsDomain s d) where
         → Like s d (suc n) b c
     neither b c h k = ((λ a e. absurd (h a e)), (λ a e. absurd (k a e)))
 
-    shapes_like : (f g : Shape) (b c : Base) → AreOne R f g → IsOf f b → IsOf g c → Like s d (suc n) b c
+    shapes_like : (f g : TypeShape) (b c : Base) → AreOne R f g → IsOf f b → IsOf g c → Like s d (suc n) b c
     shapes_like (of_arrays k) (of_arrays l) b c r (a, p, x, i) (e, q, y, j) =
         pair b c a e k l p q (ap has_no_order x ∙ sym (ap has_no_order y)) i j r
     shapes_like (of_lists k) (of_lists l) b c r (a, p, x, i) (e, q, y, j) =
@@ -142,5 +142,5 @@ module _ (s : Schema) (d : Domain) (is : IsDomain s d) where
       shapes_like R n (λ x y q. alike_so_deep R keeps n x y q) shapes.0 shapes.1 (base d k) (base d l) shapes.4
       (has_shape k shapes.0 shapes.2) (has_shape l shapes.1 shapes.3)
 
-  pub alike_are_like : (k l : DataType) → AreAlike s k l → IsLike s d (base d k) (base d l)
+  pub alike_are_like : (k l : DataType) → AreAlikeTypes s k l → IsLike s d (base d k) (base d l)
   alike_are_like k l (R, r, keeps) n = alike_so_deep R keeps n k l r

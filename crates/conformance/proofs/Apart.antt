@@ -10,9 +10,9 @@ use Rattle.schema_semantics.proofs.Lists.{every-of}
 use Rattle.conformance.specs.Bases.{Base, Domain, base}
 use Rattle.conformance.specs.Entities.{data_types}
 use Rattle.conformance.specs.Populations.{Slot}
-use Rattle.conformance.specs.Apart.{OccursIn, KeepsApart, KeepEachApart}
+use Rattle.conformance.specs.SeparatingMaps.{OccursIn, KeepsApart, KeepEachApart}
 use Rattle.conformance.specs.Images.{KeepsSlotApart}
-use Rattle.conformance.specs.Standing.{InBag, InBagOf, StandsInBag}
+use Rattle.conformance.specs.CollectionMembers.{InBag, InBagOf, StandsInBag}
 use Rattle.conformance.specs.Elements.{AnElement, IsReferenceTo, StandsWithin, IsAnotherOfClass, HasUnique, HasUniqueAmong}
 use Rattle.conformance.specs.Pins.{StandsInsideUnique, StandsBesideItsClass}
 use Rattle.conformance.specs.RuleLaws.{names, GentlePinsKeepApart}

@@ -5,7 +5,7 @@ use Rattle.std.proofs.Common.{refl, sym, ◌∙◌, ap, subst, eqb-true, arith}
 use Rattle.std.proofs.lemmas.Bool.{and_parts}
 use Rattle.std.proofs.lemmas.List.{length-append}
 use Rattle.step_structures.specs.Trees as trees
-use Rattle.step_structures.specs.Trees.{Trees, Record, Form, internal, external, Row}
+use Rattle.step_structures.specs.Trees.{Trees, Record, Form, internal, external, ExchangeRow}
 use Rattle.express_syntax.specs.Schemas.{Schema, Declaration, type, entity, skipped, Entity}
 use Rattle.schema_semantics.specs.Names.{Name, Among, declaration_of, entities, explicit_names, IsEntityAt, DeclaresExplicit}
 use Rattle.schema_semantics.specs.Attributes.{Place, own_places, IsPlaces}
@@ -16,8 +16,8 @@ use Rattle.schema_semantics.proofs.Placed.{explicit-have-places}
 use Rattle.schema_semantics.proofs.Climbing.{places-are-explicit}
 use Rattle.schema_semantics.proofs.Recursion.{to-any, from-any}
 use Rattle.conformance.specs.Bases.{Domain}
-use Rattle.conformance.specs.Fitting.{entity_names, among, is_entity, count}
-use Rattle.conformance.specs.Entities.{Entities, AreEntities, own_in, own_places_of, named_entity, records, parameters, joined, types_of, places_of, unknown_entities, has_count, wrong_counts}
+use Rattle.conformance.specs.ParameterFits.{entity_names, is_listed, is_entity, count}
+use Rattle.conformance.specs.Entities.{Entities, AreEntities, own_in, own_places_of, named_entity, records, parameters, joined_trees, types_of, places_of, unknown_entities, has_count, wrong_counts}
 use Rattle.conformance.specs.Populations.{Slot, slots_of, instance_of}
 use Rattle.conformance.proofs.Declared.{entity_at}
 use Rattle.conformance.proofs.Targets.{none_fails}
@@ -25,7 +25,7 @@ use Rattle.conformance.proofs.Targets.{none_fails}
 one_less : (m n : ℕ) → suc m ≡ suc n → m ≡ n
 one_less m n e = cc
 
-count_joined : (xs ys : Trees) → count (joined xs ys) ≡ count xs + count ys
+count_joined : (xs ys : Trees) → count (joined_trees xs ys) ≡ count xs + count ys
 count_joined trees.none ys = omega (arith)
 count_joined (trees.one x xs) ys = let less = count_joined xs ys in omega (arith, less)
 
@@ -106,17 +106,17 @@ module _ (s : Schema) (d : Domain) (en : Entities) where
         (among-map (λ (b : Name). (x.name, b)) a (explicit_names x) m)))
 
     of_parts : (rs : List Record) → Among (e, a) (flat_map (λ r. own_places_of s (named_entity r)) rs)
-        ↔ (Among e (filter (λ n. among n (map named_entity rs)) (entity_names s)) × DeclaresExplicit s e a)
+        ↔ (Among e (filter (λ n. is_listed n (map named_entity rs)) (entity_names s)) × DeclaresExplicit s e a)
     of_parts rs = (
       (λ h. let from = from-flat (λ r. own_places_of s (named_entity r)) (e, a) rs h in
           let said = own_declared (named_entity from.0) _ refl from.2 in (
-            among-filter (λ n. among n (map named_entity rs)) e (entity_names s) (declared_entity said.1)
+            among-filter (λ n. is_listed n (map named_entity rs)) e (entity_names s) (declared_entity said.1)
                 (to-any e (map named_entity rs) (subst (λ n. Among n (map named_entity rs)) said.0
                 (among-map named_entity from.0 rs from.1))),
             said.1,
           )),
       (λ h. let from = from-map named_entity rs e (from-any e (map named_entity rs)
-          (from-filter (λ n. among n (map named_entity rs)) e (entity_names s) h.0)) in
+          (from-filter (λ n. is_listed n (map named_entity rs)) e (entity_names s) h.0)) in
           among-flat (λ r. own_places_of s (named_entity r)) from.0 (e, a) rs from.1
           (own_place (named_entity from.0) from.2 h.1)),
     )
@@ -129,7 +129,7 @@ module _ (s : Schema) (d : Domain) (en : Entities) where
         (from-any (named_entity x) (entity_names s) (and_parts (is_entity s (named_entity x)) true all).0)
     of_form (external rs) known = of_parts rs
 
-  pub attributes_of : IsResolved s → AreEntities s en → (k : ℕ) (r : Row) → unknown_entities s en r.form ≡ 0
+  pub attributes_of : IsResolved s → AreEntities s en → (k : ℕ) (r : ExchangeRow) → unknown_entities s en r.form ≡ 0
       → wrong_counts s en r.form ≡ 0 → (e a : Name)
       → Among (e, a) (map (λ (x : Slot). x.place) (instance_of s d en k r).slots)
       ↔ (Among e (instance_of s d en k r).types × DeclaresExplicit s e a)

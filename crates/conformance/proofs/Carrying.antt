@@ -4,16 +4,17 @@ use Rattle.std.specs.Prelude.{◌==◌}
 use Rattle.step_values.specs.Leaves.{unset}
 use Rattle.step_values.specs.Values.{Value, leaf, reference, typed, sequence, bag, Values, none, more, IsReordering, unchanged, kept, swapped, joined, Agree, AgreeEach}
 use Rattle.step_values.specs.References.{renamed, renamed_each, EachReference, EachReferenceOf}
-use Rattle.step_values.specs.ComputedAgreement.{size}
+use Rattle.step_values.specs.AgreementTests.{value_count}
 use Rattle.step_values.proofs.Agreement.{agree_trans, agree_back, eqb_sym, eqb_trans}
 use Rattle.step_values.proofs.References.{each_in_bag, each_weaker, each_weaker_of}
 use Rattle.step_values.proofs.Renaming.{reflected}
+use Rattle.step_values.proofs.Crowds.{by_names}
 use Rattle.express_syntax.specs.Schemas.{Schema}
 use Rattle.schema_semantics.specs.Names.{Name}
 use Rattle.conformance.specs.Bases.{Base, Domain, base}
-use Rattle.conformance.specs.Fitting.{in_bounds, is_set, inner}
+use Rattle.conformance.specs.ParameterFits.{in_bounds, is_set, inner}
 use Rattle.conformance.specs.Fits.{LeafFits, DiffersFrom, AllDiffer, IsLeftOut, Typing, Fits, FitEach}
-use Rattle.conformance.specs.Apart.{Occurs, OccursIn, IsOneToOne, KeepsApart, KeepEachApart}
+use Rattle.conformance.specs.SeparatingMaps.{Occurs, OccursIn, IsOneToOne, KeepsApart, KeepEachApart}
 
 pub same_sym : (v w : Value) → Agree (◌==◌) v w → Agree (◌==◌) w v
 same_sym v w = agree_back (◌==◌) (◌==◌) eqb_sym v w
@@ -76,13 +77,13 @@ distinct_carried h (more v vs) (more w ws) g d es = (
 distinct_carried h none (more x xs) g d es = absurd es
 distinct_carried h (more u us) none g d es = absurd es
 
-sizes_alike : (h : ℕ → ℕ) (vs ws : Values) → AgreeEach (◌==◌) (renamed_each h vs) ws → size vs ≡ size ws
+sizes_alike : (h : ℕ → ℕ) (vs ws : Values) → AgreeEach (◌==◌) (renamed_each h vs) ws → value_count vs ≡ value_count ws
 sizes_alike h none none es = refl
 sizes_alike h (more v vs) (more w ws) es = ap suc (sizes_alike h vs ws es.1)
 sizes_alike h none (more x xs) es = absurd es
 sizes_alike h (more u us) none es = absurd es
 
-size_reordered : {us vs : Values} → IsReordering us vs → size us ≡ size vs
+size_reordered : {us vs : Values} → IsReordering us vs → value_count us ≡ value_count vs
 size_reordered (unchanged vs) = refl
 size_reordered (kept v r) = ap suc (size_reordered r)
 size_reordered (swapped v w vs) = refl
@@ -152,14 +153,15 @@ module _ (s : Schema) (d : Domain) (before after : Typing) (h : ℕ → ℕ)
         }
     fits_carried b (bag vs) (bag ws) f g e =
         let apart = g f.of f.is_of in
+        let m = by_names (renamed_each h vs) ws e in
         record {
           of = f.of;
           is_of = f.is_of;
           order = f.order;
-          bounds = subst (λ n. in_bounds f.of n ≡ true) (sizes_alike h vs e.0 e.2 ∙ size_reordered e.1) f.bounds;
-          each = each_reordered s d after f.of.optional (base d f.of.element) e.1
-              (each_carried f.of.optional (base d f.of.element) vs e.0 f.each apart.1 e.2);
-          unique = λ u. distinct_reordered e.1 (distinct_carried h vs e.0 (apart.0 u) (f.unique u) e.2);
+          bounds = subst (λ n. in_bounds f.of n ≡ true) (sizes_alike h vs m.0 m.2 ∙ size_reordered m.1) f.bounds;
+          each = each_reordered s d after f.of.optional (base d f.of.element) m.1
+              (each_carried f.of.optional (base d f.of.element) vs m.0 f.each apart.1 m.2);
+          unique = λ u. distinct_reordered m.1 (distinct_carried h vs m.0 (apart.0 u) (f.unique u) m.2);
         }
     fits_carried b v w f g e = absurd e
 

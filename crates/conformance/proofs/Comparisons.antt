@@ -8,10 +8,10 @@ use Rattle.express_syntax.specs.declared.expression.Relation.TheVariants as rela
 use Rattle.express_syntax.specs.declared.expression.Limit.{Limit}
 use Rattle.express_syntax.specs.declared.expression.Limit.TheVariants as limits
 use Rattle.express_logic.specs.Logic.{either, negated}
-use Rattle.express_logic.specs.Comparing.{a_number, a_text, some_bits, an_element, a_logical, scalar, equal_scalars, less_scalars, equal, less, among, among_elements, member}
+use Rattle.express_logic.specs.Comparison.{a_number, a_text, some_bits, an_element, a_logical, scalar, equal_scalars, less_scalars, equal, less, among, among_elements, member}
 use Rattle.express_logic.specs.Data.{Shape, list, bag, array, Datum, indeterminate, number, text, bits, element, logical, instance, typed, aggregate, Data, none, more, truth, is_known}
 use Rattle.conformance.specs.Operations.{bare, says, compared, limited}
-use Rattle.conformance.specs.Alike.{IsReordering, unchanged, kept, swapped, joined, InOrder, Alike, AlikeEach}
+use Rattle.conformance.specs.AlikeValues.{IsDataReordering, unchanged, kept, swapped, joined, InOrder, Alike, AlikeEach}
 
 pub alike_scalar : (led : ℕ → ℕ → Type 0) (d e : Datum) → Alike led d e → scalar d ≡ scalar e
 alike_scalar led indeterminate indeterminate h = refl
@@ -116,7 +116,7 @@ either_swap True True False = refl
 either_swap True True Unknown = refl
 either_swap True True True = refl
 
-pub among_reordered : (d : Datum) {us es : Data} → IsReordering us es → among d us ≡ among d es
+pub among_reordered : (d : Datum) {us es : Data} → IsDataReordering us es → among d us ≡ among d es
 among_reordered d (unchanged es) = refl
 among_reordered d (kept e r) = ap (either (equal d e)) (among_reordered d r)
 among_reordered d (swapped e f es) = either_swap (equal d e) (equal d f) (among d es)

@@ -8,8 +8,8 @@ use Rattle.schema_semantics.specs.Names.{Among}
 use Rattle.schema_semantics.proofs.Lists.{from-flat}
 use Rattle.conformance.specs.Populations.{Instance}
 use Rattle.conformance.specs.RuleLaws.{names}
-use Rattle.conformance.specs.Meanings.{instances}
-use Rattle.conformance.specs.Alike.{IsReordering, unchanged, kept, swapped, joined}
+use Rattle.conformance.specs.Meanings.{instance_data}
+use Rattle.conformance.specs.AlikeValues.{IsDataReordering, unchanged, kept, swapped, joined}
 use Rattle.express_logic.specs.Data as data_of
 
 abbrev pub weight : Bool → ℕ
@@ -86,24 +86,24 @@ module _ (f : Instance → List ℕ) (own : (x : Instance) (v : ℕ) → Among v
 -- x, and what is left without it
 record Pulled (x : ℕ) (ys : List ℕ) : Type 0 where
   rest : List ℕ
-  order : IsReordering (instances (x ∷ rest)) (instances ys)
+  order : IsDataReordering (instance_data (x ∷ rest)) (instance_data ys)
   counts : (w : ℕ) → count w ys ≡ weight (w == x) + count w rest
 
 pull : (x : ℕ) (ys : List ℕ) → Among x ys → Pulled x ys
 pull x [] m = elim m [ ]
 pull x (y ∷ ys) (inl e) =
     subst (λ z. Pulled z (y ∷ ys)) e
-    (record { rest = ys; order = unchanged (instances (y ∷ ys)); counts = λ w. refl })
+    (record { rest = ys; order = unchanged (instance_data (y ∷ ys)); counts = λ w. refl })
 pull x (y ∷ ys) (inr m) =
     let p = pull x ys m in
     record {
       rest = y ∷ p.rest;
-      order = joined (swapped (data_of.instance x) (data_of.instance y) (instances p.rest))
+      order = joined (swapped (data_of.instance x) (data_of.instance y) (instance_data p.rest))
           (kept (data_of.instance y) p.order);
       counts = λ w. let h = p.counts w in omega (arith, h);
     }
 
-pub reordered : (xs ys : List ℕ) → ((w : ℕ) → count w xs ≡ count w ys) → IsReordering (instances xs) (instances ys)
+pub reordered : (xs ys : List ℕ) → ((w : ℕ) → count w xs ≡ count w ys) → IsDataReordering (instance_data xs) (instance_data ys)
 reordered [] [] h = unchanged data_of.none
 reordered [] (y ∷ ys) h =
     let same = h y in let one : weight (y == y) ≡ 1 = ap weight (eq-eqb y y refl) in

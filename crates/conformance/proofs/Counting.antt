@@ -7,10 +7,10 @@ use Rattle.std.proofs.lemmas.List.Sums.{sum_by-append}
 use Rattle.std.proofs.lemmas.Map.Keys.{IsDistinct-head, IsDistinct-tail}
 use Rattle.step_values.specs.Values.{Value, leaf, reference, typed, sequence, bag, Values, none, more}
 use Rattle.schema_semantics.specs.Names.{Among}
-use Rattle.conformance.specs.Fitting.{among}
+use Rattle.conformance.specs.ParameterFits.{is_listed}
 use Rattle.conformance.specs.Populations.{Instance}
-use Rattle.conformance.specs.Apart.{Occurs, OccursIn}
-use Rattle.conformance.specs.Referring.{times, times_in, references, holds, held}
+use Rattle.conformance.specs.SeparatingMaps.{Occurs, OccursIn}
+use Rattle.conformance.specs.Referrers.{times, times_in, references, holds, held}
 use Rattle.conformance.specs.RuleLaws.{names, ReferencesAreCounted, ReferrersAreCounted}
 
 some_of_sum : (m n : ℕ) → 0 < m + n → (0 < m) ⊎ (0 < n)
@@ -131,7 +131,7 @@ referrers_are_counted is i y distinct declares x m refers =
         (eq-eqb x.name x.name refl)
 
     others : (z : Instance) → (x.name == z.name) ≡ false → count_by (λ v. x.name == v) (held i y z) ≡ 0
-    others z e = by (among i.referrer z.types)
+    others z e = by (is_listed i.referrer z.types)
       where
         by : (b : Bool) → count_by (λ v. x.name == v)
             (cond b (repeat (holds i.gathering (references z i.inverted y)) (z.name ∷ [])) []) ≡ 0

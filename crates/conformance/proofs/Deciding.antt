@@ -7,14 +7,14 @@ use Rattle.express_syntax.specs.Schemas.{Schema, DataType}
 use Rattle.schema_semantics.specs.Names.{Name, OneOf}
 use Rattle.schema_semantics.specs.Attributes.{Place}
 use Rattle.conformance.specs.Bases.{Aggregate, Base, integer, number, boolean, logical, string, binary, enumeration, entity, select, aggregate, Domain, base}
-use Rattle.conformance.specs.Fitting.{inner, among}
+use Rattle.conformance.specs.ParameterFits.{inner, is_listed}
 use Rattle.conformance.specs.Entities.{Entities, data_types, is_leaf}
 use Rattle.conformance.specs.Populations.{Slot, Instance, slot_at, types_at}
-use Rattle.conformance.specs.Apart.{Occurs, OccursIn}
-use Rattle.conformance.specs.Standing.{InBag, InBagOf, StandsInBag}
+use Rattle.conformance.specs.SeparatingMaps.{Occurs, OccursIn}
+use Rattle.conformance.specs.CollectionMembers.{InBag, InBagOf, StandsInBag}
 use Rattle.conformance.specs.Rules.{UniqueRule, InverseAttribute, Rules}
 use Rattle.conformance.specs.Elements.{AnElement, IsReferenceTo, StandsWithin, IsAnotherOfClass, HasUnique, HasUniqueAmong, HasUniqueValue}
-use Rattle.conformance.specs.Pins.{HasUnchosenLeaf, OccursAt, IsInKey, Refers, IsInverseSide, StandsInsideUnique, StandsBesideItsClass, IsPinnedElsewhere, IsWeaklyPinned, IsGentlyPinned}
+use Rattle.conformance.specs.Pins.{HasUnchosenLeaf, OccursAt, IsInKey, RefersByInverse, IsInverseSide, StandsInsideUnique, StandsBesideItsClass, IsPinnedElsewhere, IsWeaklyPinned, IsGentlyPinned}
 use Rattle.conformance.specs.RuleLaws.{PinsHaveTests}
 use Rattle.conformance.proofs.Decided.{Decided, test, test_decides, either_decided, both_decided, not_decided, one_decided, true_decided, false_decided, same_decided, some_decided}
 
@@ -166,10 +166,10 @@ module _ (y : ℕ) where
   module _ (is : List Instance) where
     abbrev key_decided : (u : UniqueRule) → Decided (IsInKey is y u)
     key_decided u =
-        either_decided (true_decided (among u.entity (types_at is y)))
-        (one_decided (λ (x : Instance). IsTrue (among u.entity x.types)
+        either_decided (true_decided (is_listed u.entity (types_at is y)))
+        (one_decided (λ (x : Instance). IsTrue (is_listed u.entity x.types)
         × OneOf (λ (p : Place). OccursAt y (slot_at x.slots p)) u.places)
-        (λ (x : Instance). both_decided (true_decided (among u.entity x.types))
+        (λ (x : Instance). both_decided (true_decided (is_listed u.entity x.types))
         (one_decided (λ (p : Place). OccursAt y (slot_at x.slots p))
         (λ (p : Place). at_decided (slot_at x.slots p)) u.places)) is)
 
@@ -177,15 +177,15 @@ abbrev three_by : {P Q R : Type 0} → Decided (P × (Q × R)) → Decided (P ×
 three_by (inl h) = inl (h.0, h.1.0, h.1.1)
 three_by (inr n) = inr (λ h. n (h.0, (h.1, h.2)))
 
-abbrev refers_decided : (i : InverseAttribute) (x z : Instance) → Decided (Refers i x z)
+abbrev refers_decided : (i : InverseAttribute) (x z : Instance) → Decided (RefersByInverse i x z)
 refers_decided i x z =
-    three_by (both_decided (true_decided (among i.referrer x.types))
-    (both_decided (at_decided z.name (slot_at x.slots i.inverted)) (true_decided (among i.entity z.types))))
+    three_by (both_decided (true_decided (is_listed i.referrer x.types))
+    (both_decided (at_decided z.name (slot_at x.slots i.inverted)) (true_decided (is_listed i.entity z.types))))
 
 abbrev side_decided : (is : List Instance) (y : ℕ) (i : InverseAttribute) → Decided (IsInverseSide is y i)
 side_decided is y i =
-    one_decided (λ (x : Instance). OneOf (λ (z : Instance). Refers i x z × ((x.name ≡ y) ⊎ (z.name ≡ y))) is)
-    (λ (x : Instance). one_decided (λ (z : Instance). Refers i x z × ((x.name ≡ y) ⊎ (z.name ≡ y)))
+    one_decided (λ (x : Instance). OneOf (λ (z : Instance). RefersByInverse i x z × ((x.name ≡ y) ⊎ (z.name ≡ y))) is)
+    (λ (x : Instance). one_decided (λ (z : Instance). RefersByInverse i x z × ((x.name ≡ y) ⊎ (z.name ≡ y)))
     (λ (z : Instance). both_decided (refers_decided i x z)
     (either_decided (same_decided x.name y) (same_decided z.name y))) is) is
 
@@ -206,8 +206,8 @@ module _ (s : Schema) (d : Domain) (en : Entities) (y : ℕ) where
 
   abbrev leaf_decided : (chosen types : List Name) → Decided (HasUnchosenLeaf s en chosen types)
   leaf_decided chosen types =
-      one_decided (λ e. IsTrue (is_leaf s en types e) × (among e chosen ≡ false))
-      (λ e. both_decided (true_decided (is_leaf s en types e)) (false_decided (among e chosen))) types
+      one_decided (λ e. IsTrue (is_leaf s en types e) × (is_listed e chosen ≡ false))
+      (λ e. both_decided (true_decided (is_leaf s en types e)) (false_decided (is_listed e chosen))) types
 
 module _ (s : Schema) (d : Domain) (en : Entities) (rules : Rules) (chosen : List Name) (is : List Instance) where
   abbrev elsewhere_decided : (y : ℕ) → Decided (IsPinnedElsewhere s d en rules chosen is y)

@@ -3,13 +3,13 @@ use Rattle.std.specs.Prelude.{◌≡◌, ℕ, ◌+◌, List, [], ◌∷◌, ◌+
 use Rattle.std.proofs.Common.{refl, sym, ◌∙◌, ap, subst, inl, inr}
 use Rattle.express_syntax.specs.Schemas.{Schema, Declaration, type, entity, skipped, Entity, Attribute, own, redeclared, Explicit, Derived, Inverse, DataType}
 use Rattle.schema_semantics.specs.Names.{Name, OneOf, Among, listed, entities, entities_of, own_names, explicit_names, derived_names, inverse_names, attribute_names, IsEntityAt}
-use Rattle.schema_semantics.specs.Faults.{IsResolved, declared, declared_from, in_scope, items_of}
-use Rattle.schema_semantics.specs.Shapes.{AreAlike}
+use Rattle.schema_semantics.specs.Faults.{IsResolved, declared, declared_from, in_scope, enumerated_items}
+use Rattle.schema_semantics.specs.Shapes.{AreAlikeTypes}
 use Rattle.schema_semantics.specs.Attributes.{collected, DeclaresAs, IsFirstType}
 use Rattle.schema_semantics.proofs.Lists.{AreFresh, are-fresh, fresh-right, among-left, among-right, among-map, from-map, from-flat}
 use Rattle.schema_semantics.proofs.Supertypes.{found, stands, entity-name}
 use Rattle.conformance.specs.Bases.{Domain, base, IsDomain}
-use Rattle.conformance.specs.Fitting.{entity_names}
+use Rattle.conformance.specs.ParameterFits.{entity_names}
 use Rattle.conformance.specs.Entities.{Entities, AreThose, DeclaresSo, AreEntities, declarations_by, data_types}
 use Rattle.conformance.proofs.ValueForms.{Like, IsLike, like_same, like_back, like_through}
 use Rattle.conformance.proofs.Alike.{alike_are_like}
@@ -33,7 +33,7 @@ fresh_in : (k : ℕ) (ds : List Declaration) (e : Entity) → AreFresh (declared
 fresh_in k [] e f m = elim m [ ]
 fresh_in k (type t ∷ ds) e f (inl h) = absurd (cc)
 fresh_in k (type t ∷ ds) e f (inr m) =
-    fresh_in (k + 1) ds e (fresh-right (in_scope k (items_of t.underlying)) (declared_from (k + 1) ds) f.1) m
+    fresh_in (k + 1) ds e (fresh-right (in_scope k (enumerated_items t.underlying)) (declared_from (k + 1) ds) f.1) m
 fresh_in k (entity x ∷ ds) e f (inl h) =
     let same : x ≡ e = cc in
     subst (λ y. AreFresh (attribute_names y)) same
@@ -204,7 +204,7 @@ module _ (s : Schema) (r : IsResolved s) where
 
   -- a declaration has the data type of the first one, or one alike
   abbrev IsOfPlace : Name → Name → DataType → Type 0
-  IsOfPlace p a k = (first : DataType) × IsFirstType s p a first × ((first ≡ k) ⊎ AreAlike s first k)
+  IsOfPlace p a k = (first : DataType) × IsFirstType s p a first × ((first ≡ k) ⊎ AreAlikeTypes s first k)
 
   of_place : (n p a : Name) (e : Entity) (x : Explicit) → IsEntityAt s n e → e.name ≡ n → Among x e.explicits
       → DeclaresSo s e (p, a) x → IsOfPlace p a x.data_type
@@ -241,7 +241,7 @@ module _ (s : Schema) (r : IsResolved s) where
         subst (IsOfPlace p a) named.2
         (of_place by.0 p a at.0 named.0 at.1 (entity-name s by.0 at.0 at.1).1 said.1 said.0)
 
-    like_first : (k first : DataType) → (first ≡ k) ⊎ AreAlike s first k → IsLike s d (base d first) (base d k)
+    like_first : (k first : DataType) → (first ≡ k) ⊎ AreAlikeTypes s first k → IsLike s d (base d first) (base d k)
     like_first k first (inl e) n = subst (λ l. Like s d n (base d first) (base d l)) e (like_same s d n (base d first))
     like_first k first (inr h) n = alike_are_like s d is first k h n
 

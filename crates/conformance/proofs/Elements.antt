@@ -7,7 +7,7 @@ use Rattle.express_logic.specs.Literals.{whole_units}
 use Rattle.express_logic.specs.Holdings.{size_of}
 use Rattle.express_logic.specs.Data.{Shape, list, bag, array, Datum, indeterminate, number, text, bits, element, logical, instance, typed, aggregate, Data, none, more}
 use Rattle.conformance.specs.Operations.{says, whole, size, last_index, first_index, high_index, low_index, or_else, is_index, element_from, only, element_of, indexed, is_true, filtered, kept_shape, queried}
-use Rattle.conformance.specs.Alike.{IsReordering, unchanged, kept, swapped, joined, InOrder, Alike, AlikeEach, AlikeIn}
+use Rattle.conformance.specs.AlikeValues.{IsDataReordering, unchanged, kept, swapped, joined, InOrder, Alike, AlikeEach, AlikeIn}
 use Rattle.conformance.proofs.Comparisons.{picked, alike_says}
 
 pub size_each : (led : ℕ → ℕ → Type 0) (ds es : Data) → AlikeEach led ds es → size_of ds ≡ size_of es
@@ -15,7 +15,7 @@ size_each led none none h = refl
 size_each led (more d ds) (more e es) h = ap suc (size_each led ds es h.1)
 size_each led _ _ h = absurd h
 
-pub size_reordered : {us es : Data} → IsReordering us es → size_of us ≡ size_of es
+pub size_reordered : {us es : Data} → IsDataReordering us es → size_of us ≡ size_of es
 size_reordered (unchanged es) = refl
 size_reordered (kept e r) = ap suc (size_reordered r)
 size_reordered (swapped e f es) = refl
@@ -111,7 +111,7 @@ only_kept d (more u us) (more e es) h = refl
 only_kept d none (more e es) h = absurd (omega (arith, h))
 only_kept d (more u us) none h = absurd (omega (arith, h))
 
-only_reordered : {us es : Data} → IsReordering us es → only us ≡ only es
+only_reordered : {us es : Data} → IsDataReordering us es → only us ≡ only es
 only_reordered (unchanged es) = refl
 only_reordered (kept {ds = us} {es = es} d r) = only_kept d us es (size_reordered r)
 only_reordered (swapped e f es) = refl
@@ -177,21 +177,21 @@ filtered_each led p q f (more d ds) (more e es) h =
     (filtered_each led p q f ds es h.1)
 filtered_each led p q f _ _ h = absurd h
 
-kept_or : (b : Bool) (d : Datum) {us es : Data} → IsReordering us es
-    → IsReordering (if b then more d us else us) (if b then more d es else es)
+kept_or : (b : Bool) (d : Datum) {us es : Data} → IsDataReordering us es
+    → IsDataReordering (if b then more d us else us) (if b then more d es else es)
 kept_or true d r = kept d r
 kept_or false d r = r
 
 swapped_or : (b c : Bool) (d e : Datum) (es : Data)
-    → IsReordering (if b then more d (if c then more e es else es) else (if c then more e es else es))
+    → IsDataReordering (if b then more d (if c then more e es else es) else (if c then more e es else es))
     (if c then more e (if b then more d es else es) else (if b then more d es else es))
 swapped_or true true d e es = swapped d e es
 swapped_or true false d e es = unchanged (more d es)
 swapped_or false true d e es = unchanged (more e es)
 swapped_or false false d e es = unchanged es
 
-filtered_reordered : (p : Datum → Logical) {us es : Data} → IsReordering us es
-    → IsReordering (filtered p us) (filtered p es)
+filtered_reordered : (p : Datum → Logical) {us es : Data} → IsDataReordering us es
+    → IsDataReordering (filtered p us) (filtered p es)
 filtered_reordered p (unchanged es) = unchanged (filtered p es)
 filtered_reordered p (kept d r) = kept_or (is_true (p d)) d (filtered_reordered p r)
 filtered_reordered p (swapped d e es) = swapped_or (is_true (p d)) (is_true (p e)) d e (filtered p es)

@@ -5,7 +5,7 @@ use Rattle.std.specs.Prelude.{ℕ, suc, List, [], ◌∷◌, ◌++◌, Some, Non
 use Rattle.step_literals.specs.Bits.{digit_bits}
 use Rattle.step_literals.specs.Decimals.{units}
 use Rattle.step_literals.specs.Items.{string_items}
-use Rattle.step_structures.specs.Trees.{Tree, Row}
+use Rattle.step_structures.specs.Trees.{Tree, ExchangeRow}
 use Rattle.step_values.specs.Leaves as leaves
 use Rattle.step_values.specs.Values as values
 use Rattle.step_values.specs.Values.{leaf, reference, none, more}
@@ -20,20 +20,20 @@ use Rattle.conformance.specs.Populations.{Instance, population_of}
 use Rattle.conformance.proofs.SmallSchemas.{domain_of, entities_of}
 use Rattle.conformance.proofs.Samples.{num, text, bits, item, to, dollar, star, group, typed, part, row, parts, file_of, mixed, mixed_back}
 
-abbrev named : String → List Row → List Finding
+abbrev named : String → List ExchangeRow → List Finding
 named schema rows = findings geo (domain_of geo 4) (entities_of geo 4) (file_of schema rows)
 
-abbrev in_geo : List Row → List Finding
+abbrev in_geo : List ExchangeRow → List Finding
 in_geo = named "GEO"
 
-abbrev in_mixed : Schema → List Row → List Finding
+abbrev in_mixed : Schema → List ExchangeRow → List Finding
 in_mixed s rows = findings s (domain_of s 6) (entities_of s 4) (file_of "MIXED" rows)
 
 abbrev found : FindingKind → ℕ → ℕ → Finding
 found kind n place = record { kind = kind; instance = n; spot = Place place }
 
 -- instances of an entity with one attribute, from #2 on
-abbrev each_from : ℕ → String → List Tree → List Row
+abbrev each_from : ℕ → String → List Tree → List ExchangeRow
 each_from n w [] = []
 each_from n w (x ∷ xs) = row n w (x ∷ []) ∷ each_from (suc n) w xs
 
@@ -263,7 +263,7 @@ sections_of_schemas : findings geo (domain_of geo 4) (entities_of geo 4) (record
 unfolding string_items
 sections_of_schemas = refl
 
-abbrev in_population : List Row → List Instance
+abbrev in_population : List ExchangeRow → List Instance
 in_population rows = population_of geo (domain_of geo 4) (entities_of geo 4) (file_of "GEO" rows)
 
 a_label_that_is_derived : in_population (row 1 "PLAIN_MARK" (dollar ∷ item "fine" ∷ []) ∷ []) ≡ record {

@@ -15,10 +15,10 @@ use Rattle.schema_semantics.specs.Names.{Name}
 use Rattle.express_logic.specs.Logic.{negated, both, either, known}
 use Rattle.express_logic.specs.Data.{Datum}
 use Rattle.express_logic.specs.Data as data_of
-use Rattle.express_logic.specs.Comparing.{member}
+use Rattle.express_logic.specs.Comparison.{member}
 use Rattle.conformance.specs.Operations.{bare, says, indexed}
 use Rattle.conformance.specs.Expressions.{Setting, of_literal, of_signed, of_call, of_junction, string_of, is_of_type, instance_attribute, attribute_of, or_this, with_attribute, instance_group, with_group, Variable, variable, first_of_two, named_value, with_value, item_value, bound, means, selected, item_behind, and_all, or_all, is_in, among_each}
-use Rattle.conformance.specs.Alike.{Alike}
+use Rattle.conformance.specs.AlikeValues.{Alike}
 use Rattle.conformance.proofs.Comparisons.{alike_bare, alike_says, alike_known, picked_by, equal_alike, limited_alike, member_alike, compared_alike}
 use Rattle.conformance.proofs.Elements.{size_alike, high_index_alike, low_index_alike, or_else_alike, indexed_alike, queried_alike}
 

@@ -6,11 +6,11 @@ use Rattle.std.proofs.lemmas.Map.Keys.{IsDistinct-head, IsDistinct-tail}
 use Rattle.step_values.specs.Values.{Value}
 use Rattle.schema_semantics.specs.Names.{Name, OneOf, Among}
 use Rattle.schema_semantics.proofs.Lists.{among-flat, from-flat}
-use Rattle.conformance.specs.Fitting.{among}
+use Rattle.conformance.specs.ParameterFits.{is_listed}
 use Rattle.conformance.specs.Populations.{Instance, slot_at, instance_at, types_in, types_at}
 use Rattle.conformance.specs.Rules.{Gathering, alone, in_set, in_bag, InverseAttribute}
-use Rattle.conformance.specs.Referring.{times_at, references, holds, held, inverse_value}
-use Rattle.conformance.specs.Pins.{OccursAt, Refers, IsInverseSide}
+use Rattle.conformance.specs.Referrers.{times_at, references, holds, held, inverse_value}
+use Rattle.conformance.specs.Pins.{OccursAt, RefersByInverse, IsInverseSide}
 use Rattle.conformance.specs.RuleLaws.{names, InverseSidesAreHeld}
 use Rattle.conformance.proofs.Standing.{one_is, found}
 use Rattle.conformance.proofs.Counting.{references_are_counted, differs}
@@ -55,27 +55,27 @@ at_own_name x (z ∷ is) h (inr m) =
     (differs z.name x is (IsDistinct-head (◌==◌) z.name (names is) h) m)
     ∙ at_own_name x is (IsDistinct-tail (◌==◌) z.name (names is) h) m
 
-pub named_at : (y : ℕ) (is : List Instance) (n : Name) → IsTrue (among n (types_at is y))
-    → (x : Instance) × Among x is × (x.name ≡ y) × IsTrue (among n x.types)
+pub named_at : (y : ℕ) (is : List Instance) (n : Name) → IsTrue (is_listed n (types_at is y))
+    → (x : Instance) × Among x is × (x.name ≡ y) × IsTrue (is_listed n x.types)
 named_at y [] n h = absurd (cc)
 named_at y (x ∷ is) n h = by (x.name == y) refl h (named_at y is n)
   where
-    by : (b : Bool) → (x.name == y) ≡ b → IsTrue (among n (types_in (cond b (Some x) (instance_at is y))))
-        → (IsTrue (among n (types_at is y)) → (z : Instance) × Among z is × (z.name ≡ y) × IsTrue (among n z.types))
-        → (z : Instance) × Among z (x ∷ is) × (z.name ≡ y) × IsTrue (among n z.types)
+    by : (b : Bool) → (x.name == y) ≡ b → IsTrue (is_listed n (types_in (cond b (Some x) (instance_at is y))))
+        → (IsTrue (is_listed n (types_at is y)) → (z : Instance) × Among z is × (z.name ≡ y) × IsTrue (is_listed n z.types))
+        → (z : Instance) × Among z (x ∷ is) × (z.name ≡ y) × IsTrue (is_listed n z.types)
     by true e k later = (x, inl refl, eqb-true x.name y e, k)
     by false e k later = let z = later k in (z.0, inr z.1, z.2, z.3)
 
 module _ (is : List Instance) (i : InverseAttribute) where
   -- x refers to z exactly where the inverse attribute of z holds it
-  is_held : (x z : Instance) → IsDistinct (◌==◌) (names is) → Among x is → Among z is → Refers i x z
+  is_held : (x z : Instance) → IsDistinct (◌==◌) (names is) → Among x is → Among z is → RefersByInverse i x z
       → Among x.name (inverse_value is i z.name)
   is_held x z distinct m n (referrer, occurs, entity) =
       subst (λ (b : Bool). Among x.name (cond b (flat_map (held i z.name) is) [])) (sym declares)
       (among-flat (held i z.name) x x.name is m held_here)
     where
-      declares : among i.entity (types_at is z.name) ≡ true
-      declares = subst (λ o. among i.entity (types_in o) ≡ true) (sym (at_own_name z is distinct n)) entity
+      declares : is_listed i.entity (types_at is z.name) ≡ true
+      declares = subst (λ o. is_listed i.entity (types_in o) ≡ true) (sym (at_own_name z is distinct n)) entity
 
       held_here : Among x.name (held i z.name x)
       held_here =
@@ -85,13 +85,13 @@ module _ (is : List Instance) (i : InverseAttribute) where
           (held_once i.gathering (references x i.inverted z.name)
           (at_once z.name (slot_at x.slots i.inverted) occurs)))
 
-  refers_from : (x z : Instance) (y : ℕ) → IsTrue (among i.entity z.types) → Among y (held i z.name x)
-      → (x.name ≡ y) × Refers i x z
-  refers_from x z y entity m = by (among i.referrer x.types) refl m
+  refers_from : (x z : Instance) (y : ℕ) → IsTrue (is_listed i.entity z.types) → Among y (held i z.name x)
+      → (x.name ≡ y) × RefersByInverse i x z
+  refers_from x z y entity m = by (is_listed i.referrer x.types) refl m
     where
-      by : (b : Bool) → among i.referrer x.types ≡ b
+      by : (b : Bool) → is_listed i.referrer x.types ≡ b
           → Among y (cond b (repeat (holds i.gathering (references x i.inverted z.name)) (x.name ∷ [])) [])
-          → (x.name ≡ y) × Refers i x z
+          → (x.name ≡ y) × RefersByInverse i x z
       by true e k =
           let parts = repeated_among (holds i.gathering (references x i.inverted z.name)) x.name y k in (
             parts.1,
@@ -105,11 +105,11 @@ module _ (is : List Instance) (i : InverseAttribute) where
       by false e k = elim k [ ]
 
   held_refers : (y z : ℕ) → Among y (inverse_value is i z)
-      → (x : Instance) × (w : Instance) × Among x is × Among w is × (x.name ≡ y) × (w.name ≡ z) × Refers i x w
-  held_refers y z m = by (among i.entity (types_at is z)) refl m
+      → (x : Instance) × (w : Instance) × Among x is × Among w is × (x.name ≡ y) × (w.name ≡ z) × RefersByInverse i x w
+  held_refers y z m = by (is_listed i.entity (types_at is z)) refl m
     where
-      by : (b : Bool) → among i.entity (types_at is z) ≡ b → Among y (cond b (flat_map (held i z) is) [])
-          → (x : Instance) × (w : Instance) × Among x is × Among w is × (x.name ≡ y) × (w.name ≡ z) × Refers i x w
+      by : (b : Bool) → is_listed i.entity (types_at is z) ≡ b → Among y (cond b (flat_map (held i z) is) [])
+          → (x : Instance) × (w : Instance) × Among x is × Among w is × (x.name ≡ y) × (w.name ≡ z) × RefersByInverse i x w
       by true e k =
           let w = named_at z is i.entity e in
           let x = from-flat (held i z) y is k in
@@ -118,7 +118,7 @@ module _ (is : List Instance) (i : InverseAttribute) where
       by false e k = elim k [ ]
 
   abbrev Pair : ℕ → Instance → Instance → Type 0
-  Pair y x z = Refers i x z × ((x.name ≡ y) ⊎ (z.name ≡ y))
+  Pair y x z = RefersByInverse i x z × ((x.name ≡ y) ⊎ (z.name ≡ y))
 
   side : (x z : Instance) (y : ℕ) → Among x is → Among z is → Pair y x z → IsInverseSide is y i
   side x z y m n h =

@@ -5,7 +5,7 @@ use Rattle.std.specs.Ordering.{int_eq}
 use Rattle.std.proofs.lemmas.Bool.Decides.{nat_tests, Decides-int_eq}
 use Rattle.std.proofs.lemmas.Int.{ints}
 use Rattle.step_literals.specs.Decimals.{finest}
-use Rattle.step_literals.specs.MagnitudeLemmas.{ten_pos}
+use Rattle.step_literals.specs.steps.MagnitudeLemmas.{ten_pos}
 use Rattle.step_literals.proofs.UnitLemmas.{times_cancel}
 use Rattle.express_logic.specs.Literals.{whole_units}
 use Rattle.express_logic.specs.Data.{Datum, indeterminate, Data, none, more}

@@ -3,7 +3,7 @@ use Rattle.std.specs.Prelude.{◌≡◌, ℕ, zero, suc, ◌&&◌, Bool, true, f
 use Rattle.std.proofs.Common.{refl, sym, subst, inl, inr}
 use Rattle.std.proofs.lemmas.Bool.{and_parts}
 use Rattle.step_structures.specs.Trees as trees
-use Rattle.step_structures.specs.Trees.{Tree, Trees, Record, Form, internal, external, Row}
+use Rattle.step_structures.specs.Trees.{Tree, Trees, Record, Form, internal, external, ExchangeRow}
 use Rattle.step_values.specs.Leaves as leaves
 use Rattle.step_values.specs.Values.{leaf}
 use Rattle.express_syntax.specs.Schemas.{Schema, DataType}
@@ -16,9 +16,9 @@ use Rattle.conformance.specs.declared.finding.FindingKind.{FindingKind}
 use Rattle.conformance.specs.declared.finding.FindingKind.TheVariants.{UnknownEntity, AbstractInstance, MissingSupertype, OneOfBroken, ParameterCount, MisplacedStar}
 use Rattle.conformance.specs.declared.finding.Finding.{Finding}
 use Rattle.conformance.specs.Bases.{Domain, base}
-use Rattle.conformance.specs.Fitting.{Target, unknown, of_types, is_dollar, is_star_or_dollar, misfit, value_as}
+use Rattle.conformance.specs.ParameterFits.{Target, unknown, of_types, is_dollar, is_star_or_dollar, misfit, value_as}
 use Rattle.conformance.specs.Entities.{Entities, AreEntities, records, parameters, types_of, places_of, unknown_entities, abstract_leaves, missing_supertypes, broken_one_ofs, wrong_counts, is_derived, is_optional, data_types}
-use Rattle.conformance.specs.Findings.{whole, or_next, at_place, misfit_of, misfit_at, misfits_from, row_findings}
+use Rattle.conformance.specs.Findings.{whole_findings, or_next, at_place, misfit_of, misfit_at, misfits_from, row_findings}
 use Rattle.conformance.specs.Populations.{first_base, slots_of, instance_of}
 use Rattle.conformance.specs.Fits.{IsLeftOut, Typing, Fits}
 use Rattle.conformance.specs.Conforming.{FitsAll, ValueFits, SlotFits, Conforms}
@@ -42,7 +42,7 @@ pub rest_empty : {A : Type 0} (xs ys : List A) → xs ++ ys ≡ [] → ys ≡ []
 rest_empty [] ys e = e
 rest_empty (x ∷ xs) ys e = absurd (cc)
 
-pub none_whole : (name : ℕ) (kind : FindingKind) (n : ℕ) → whole name kind n ≡ [] → n ≡ 0
+pub none_whole : (name : ℕ) (kind : FindingKind) (n : ℕ) → whole_findings name kind n ≡ [] → n ≡ 0
 none_whole name kind zero e = refl
 none_whole name kind (suc n) e = absurd (cc)
 
@@ -64,7 +64,7 @@ module _ (s : Schema) (d : Domain) (en : Entities) (target : ℕ → Target) (ty
 
   module _ (ks : List DataType)
       (alike : (k l : DataType) → Among k ks → Among l ks → IsLike s d (base d k) (base d l)) where
-    -- .. and so each takes the value that the first one makes of it
+    -- Each data type takes the value that the first one makes of the parameter.
     fits_all : (x : Tree) → misfit_of s d en target ks x ≡ None
         → FitsAll s d typing ks (value_as s d (first_base s d en ks) x)
     fits_all x e = first_fits ks alike (fits_each ks x e)
@@ -110,7 +110,7 @@ module _ (s : Schema) (d : Domain) (en : Entities) (target : ℕ → Target) (ty
           (rest_empty (at_place name (suc n) (misfit_at s d en target types p x)) _ e),
     )
 
-  module _ (resolved : IsResolved s) (are : AreEntities s en) (section : ℕ) (r : Row)
+  module _ (resolved : IsResolved s) (are : AreEntities s en) (section : ℕ) (r : ExchangeRow)
       (alike : (p : Place) (k l : DataType)
       → Among k (data_types s en (types_of s en r.form) p) → Among l (data_types s en (types_of s en r.form) p)
       → IsLike s d (base d k) (base d l)) where
@@ -120,23 +120,23 @@ module _ (s : Schema) (d : Domain) (en : Entities) (target : ℕ → Target) (ty
     pub row_conforms : row_findings s d en target r ≡ [] → Conforms s d typing en (instance_of s d en section r)
     unfolding types
     row_conforms e =
-        let behind_names = next_second (whole r.name UnknownEntity (unknown_entities s en r.form)) _ e in
+        let behind_names = next_second (whole_findings r.name UnknownEntity (unknown_entities s en r.form)) _ e in
         let of_types = next_first _ _ behind_names in
-        let behind_types = next_second (whole r.name AbstractInstance (abstract_leaves s en types)
-        ++ whole r.name MissingSupertype (missing_supertypes s en types)
-        ++ whole r.name OneOfBroken (broken_one_ofs s en types)) _ behind_names in
+        let behind_types = next_second (whole_findings r.name AbstractInstance (abstract_leaves s en types)
+        ++ whole_findings r.name MissingSupertype (missing_supertypes s en types)
+        ++ whole_findings r.name OneOfBroken (broken_one_ofs s en types)) _ behind_names in
         let known = none_whole r.name UnknownEntity (unknown_entities s en r.form) (next_first _ _ e) in
         let counts = none_whole r.name ParameterCount (wrong_counts s en r.form) (next_first _ _ behind_types) in
-        let values = next_second (whole r.name ParameterCount (wrong_counts s en r.form)) _ behind_types in
-        let two = front_empty (whole r.name AbstractInstance (abstract_leaves s en types)
-        ++ whole r.name MissingSupertype (missing_supertypes s en types)) _ of_types in
+        let values = next_second (whole_findings r.name ParameterCount (wrong_counts s en r.form)) _ behind_types in
+        let two = front_empty (whole_findings r.name AbstractInstance (abstract_leaves s en types)
+        ++ whole_findings r.name MissingSupertype (missing_supertypes s en types)) _ of_types in
         record {
           leaves = none_whole r.name AbstractInstance (abstract_leaves s en types) (front_empty _ _ two);
           supertypes = none_whole r.name MissingSupertype (missing_supertypes s en types)
-              (rest_empty (whole r.name AbstractInstance (abstract_leaves s en types)) _ two);
+              (rest_empty (whole_findings r.name AbstractInstance (abstract_leaves s en types)) _ two);
           one_ofs = none_whole r.name OneOfBroken (broken_one_ofs s en types)
-              (rest_empty (whole r.name AbstractInstance (abstract_leaves s en types)
-              ++ whole r.name MissingSupertype (missing_supertypes s en types)) _ of_types);
+              (rest_empty (whole_findings r.name AbstractInstance (abstract_leaves s en types)
+              ++ whole_findings r.name MissingSupertype (missing_supertypes s en types)) _ of_types);
           attributes = attributes_of s d en resolved are section r known counts;
           slots = slots_fit types alike r.name 0 (places_of s en r.form) (parameters (records r.form)) values;
         }

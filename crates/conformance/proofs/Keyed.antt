@@ -14,9 +14,9 @@ use Rattle.step_values.proofs.Renaming.{reflected_each}
 use Rattle.schema_semantics.specs.Names.{OneOf, Among}
 use Rattle.schema_semantics.specs.Attributes.{Place}
 use Rattle.schema_semantics.proofs.Lists.{every-at, every-of}
-use Rattle.conformance.specs.Fitting.{among}
+use Rattle.conformance.specs.ParameterFits.{is_listed}
 use Rattle.conformance.specs.Populations.{Slot, Instance, instance_at, slot_at}
-use Rattle.conformance.specs.Apart.{Occurs, OccursIn}
+use Rattle.conformance.specs.SeparatingMaps.{Occurs, OccursIn}
 use Rattle.conformance.specs.Images.{IsLed}
 use Rattle.conformance.specs.Rules.{UniqueRule}
 use Rattle.conformance.specs.RuleFindings.{given, with_part, parts, key}
@@ -25,7 +25,7 @@ use Rattle.conformance.specs.RuleLaws.{names, ShareKey, HaveUniqueKeys}
 use Rattle.conformance.proofs.Standing.{one_is}
 use Rattle.conformance.proofs.Counting.{differs}
 use Rattle.conformance.proofs.Keys.{no_finding_exactly_where_keys_are_unique}
-use Rattle.conformance.specs.MeaningImages.{IsName, HasPlacesOnce, IsLedTo}
+use Rattle.conformance.specs.MeaningImages.{IsInstanceName, HasPlacesOnce, IsLedTo}
 use Rattle.conformance.specs.MeaningLaws.{IsOnto, KeysStayUnique}
 use Rattle.conformance.proofs.Led.{at_name, AgreeAt, slots_led, refers}
 
@@ -44,7 +44,7 @@ apart_by_name u (w ∷ is) h x z (inr m) (inl f) apart k =
     every-at (λ (v : Instance). ShareKey u v w → ⊥) x is h.0 m (subst (λ (v : Instance). ShareKey u x v) (sym f) k)
 apart_by_name u (w ∷ is) h x z (inr m) (inr n) apart k = apart_by_name u is h.1 x z m n apart k
 
--- .. and where no two of other names share one, keys are unique
+-- Keys are unique if no two instances with different names share one.
 unique_by_name : (u : UniqueRule) (js : List Instance) → IsDistinct (◌==◌) (names js)
     → ((x z : Instance) → Among x js → Among z js → x.name ≢ z.name → ShareKey u x z → ⊥) → HaveUniqueKeys u js
 unique_by_name u [] d f = tt
@@ -105,11 +105,11 @@ module _ (Q : ℕ → Type 0) where
       )
 
 key_parts : (u : UniqueRule) (x : Instance) (vs : Values) → key u x ≡ Some vs
-    → IsTrue (among u.entity x.types) × (parts u.places x.slots ≡ Some vs)
-key_parts u x vs e = by (among u.entity x.types) refl e
+    → IsTrue (is_listed u.entity x.types) × (parts u.places x.slots ≡ Some vs)
+key_parts u x vs e = by (is_listed u.entity x.types) refl e
   where
-    by : (b : Bool) → among u.entity x.types ≡ b → cond b (parts u.places x.slots) None ≡ Some vs
-        → IsTrue (among u.entity x.types) × (parts u.places x.slots ≡ Some vs)
+    by : (b : Bool) → is_listed u.entity x.types ≡ b → cond b (parts u.places x.slots) None ≡ Some vs
+        → IsTrue (is_listed u.entity x.types) × (parts u.places x.slots ≡ Some vs)
     by true h k = (h, k)
     by false h k = absurd (cc)
 
@@ -186,16 +186,16 @@ module _ (h : ℕ → ℕ) (x z : Instance) (once : HasPlacesOnce x) (l : IsLed 
   key_back u ws e =
       let cut = key_parts u z ws e in
       let found = parts_back u.places ws cut.1 in
-      let stated : among u.entity x.types ≡ true = ap (among u.entity) l.types ∙ cut.0 in
+      let stated : is_listed u.entity x.types ≡ true = ap (is_listed u.entity) l.types ∙ cut.0 in
       (found.0, ap (λ (b : Bool). cond b (parts u.places x.slots) None) stated ∙ found.1, found.2)
 
 module _ (u : UniqueRule) (is js : List Instance) (h : ℕ → ℕ) (to : IsLedTo is js h) (onto : IsOnto is js h)
-    (apart : (y z : ℕ) → IsName is y → IsInKey is z u → h y ≡ h z → y ≡ z) where
+    (apart : (y z : ℕ) → IsInstanceName is y → IsInKey is z u → h y ≡ h z → y ≡ z) where
   -- what stands in a key
-  key_names : (x : Instance) → Among x is → (vs : Values) → key u x ≡ Some vs → EachReferenceOf (IsName is) vs
+  key_names : (x : Instance) → Among x is → (vs : Values) → key u x ≡ Some vs → EachReferenceOf (IsInstanceName is) vs
   key_names x m vs e =
       let cut = key_parts u x vs e in
-      parts_refer (IsName is) u.places x.slots vs (λ p v n k. refers is to.closed x m p v k) cut.1
+      parts_refer (IsInstanceName is) u.places x.slots vs (λ p v n k. refers is to.closed x m p v k) cut.1
 
   key_keys : (x : Instance) → Among x is → (vs : Values) → key u x ≡ Some vs
       → EachReferenceOf (λ y. IsInKey is y u) vs
@@ -205,9 +205,9 @@ module _ (u : UniqueRule) (is js : List Instance) (h : ℕ → ℕ) (to : IsLedT
       (λ p v n k. each_occurring (λ y. IsInKey is y u) v (λ y o. stands y p v n k o cut.0)) cut.1
     where
       stands : (y : ℕ) (p : Place) (v : Value) → Among p u.places → slot_at x.slots p ≡ Some v → Occurs y v
-          → IsTrue (among u.entity x.types) → IsInKey is y u
+          → IsTrue (is_listed u.entity x.types) → IsInKey is y u
       stands y p v n k o t =
-          inr (one_is (λ (x : Instance). IsTrue (among u.entity x.types)
+          inr (one_is (λ (x : Instance). IsTrue (is_listed u.entity x.types)
           × OneOf (λ (p : Place). OccursAt y (slot_at x.slots p)) u.places) x is m
           (t, one_is (λ (p : Place). OccursAt y (slot_at x.slots p)) p u.places n (subst (OccursAt y) (sym k) o)))
 
@@ -233,9 +233,9 @@ module _ (u : UniqueRule) (is js : List Instance) (h : ℕ → ℕ) (to : IsLedT
         two.0,
         one.1,
         two.1,
-        reflected_each h (IsName is) (λ y. IsInKey is y u) apart (◌==◌) (◌==◌) (IsName is)
+        reflected_each h (IsInstanceName is) (λ y. IsInKey is y u) apart (◌==◌) (◌==◌) (IsInstanceName is)
             (λ y z n i t. eq-eqb y z (apart y z n i (eqb-true (h y) (h z) t))) one.0 two.0
-            (key_names x here.0 one.0 one.1) (each_in_bag_of (IsName is) one.0 (key_names x here.0 one.0 one.1))
+            (key_names x here.0 one.0 one.1) (each_in_bag_of (IsInstanceName is) one.0 (key_names x here.0 one.0 one.1))
             (key_keys z there.0 two.0 two.1) alike,
       )
 

@@ -7,10 +7,10 @@ use Rattle.step_values.specs.Values.{Values, AgreeEach}
 use Rattle.step_values.proofs.Deciding.{each_sound, each_complete}
 use Rattle.express_syntax.specs.Profile.{Every}
 use Rattle.schema_semantics.specs.Names.{OneOf, Among}
-use Rattle.conformance.specs.Fitting.{among}
+use Rattle.conformance.specs.ParameterFits.{is_listed}
 use Rattle.conformance.specs.Populations.{Instance}
 use Rattle.conformance.specs.Rules.{UniqueRule, InverseAttribute, Rules}
-use Rattle.conformance.specs.Referring.{inverse_value}
+use Rattle.conformance.specs.Referrers.{inverse_value}
 use Rattle.conformance.specs.RuleFindings.{Breach, key, same_keys, repeats, breaches_of_unique, may_hold, breaks, breaches_of_inverse}
 use Rattle.conformance.specs.RuleLaws.{ShareKey, RepeatsComeLater, HaveUniqueKeys, NoFindingExactlyWhereKeysAreUnique, NoFindingExactlyWhereBoundsHold}
 
@@ -226,7 +226,7 @@ no_finding_exactly_where_keys_are_unique rules is = (
 -- inverse attributes
 module _ (rules : Rules) (is : List Instance) (x : Instance) where
   abbrev MayHold : InverseAttribute → Type 0
-  MayHold i = IsTrue (among i.entity x.types) → IsTrue (may_hold i.gathering (length (inverse_value is i x.name)))
+  MayHold i = IsTrue (is_listed i.entity x.types) → IsTrue (may_hold i.gathering (length (inverse_value is i x.name)))
 
   abbrev told : InverseAttribute → Breach
   told i = record { instance = x.name; holder = i.entity; label = i.name }
@@ -236,11 +236,11 @@ module _ (rules : Rules) (is : List Instance) (x : Instance) where
     where
       by : (b : Bool) → may_hold i.gathering (length (inverse_value is i x.name)) ≡ b → b ≡ true
       by true f = refl
-      by false f = absurd (both_ways (breaks is x i) e (and_from (among i.entity x.types)
+      by false f = absurd (both_ways (breaks is x i) e (and_from (is_listed i.entity x.types)
           (not (may_hold i.gathering (length (inverse_value is i x.name)))) declares (ap not f)))
 
   unbroken : (i : InverseAttribute) → MayHold i → breaks is x i ≡ false
-  unbroken i f = by (among i.entity x.types) f
+  unbroken i f = by (is_listed i.entity x.types) f
     where
       by : (b : Bool) → (b ≡ true → IsTrue (may_hold i.gathering (length (inverse_value is i x.name))))
           → (b && not (may_hold i.gathering (length (inverse_value is i x.name)))) ≡ false

@@ -13,9 +13,9 @@ use Rattle.conformance.specs.Bases.{Domain, base}
 use Rattle.conformance.specs.Entities.{Entities, abstract_leaves, missing_supertypes, broken_one_ofs, is_derived, is_optional, data_types}
 use Rattle.conformance.specs.Populations.{Slot, Instance}
 use Rattle.conformance.specs.Fits.{Typing}
-use Rattle.conformance.specs.Apart.{KeepsApart}
+use Rattle.conformance.specs.SeparatingMaps.{KeepsApart}
 use Rattle.conformance.specs.Conforming.{FitsAll, ValueFits, SlotFits, Conforms, typing_of, PopulationConforms}
-use Rattle.conformance.specs.Images.{IsLed, KeepsSlotApart, KeepsInstanceApart, IsImage}
+use Rattle.conformance.specs.Images.{IsLed, KeepsSlotApart, KeepsInstanceApart, IsTypedImage}
 use Rattle.conformance.proofs.Carrying.{unset_led, fits_carried}
 
 derived_led : (w : Value) → Agree (◌==◌) (leaf leaves.derived) w → w ≡ leaf leaves.derived
@@ -79,7 +79,7 @@ module _ (s : Schema) (d : Domain) (before after : Typing) (h : ℕ → ℕ)
           }
 
 pub images_conform : (s : Schema) (d : Domain) (en : Entities) (h : ℕ → ℕ) (is js : List Instance)
-    → IsImage s d en h is js → PopulationConforms s d en is → PopulationConforms s d en js
+    → IsTypedImage s d en h is js → PopulationConforms s d en is → PopulationConforms s d en js
 images_conform s d en h is js image c =
     every-of (Conforms s d (typing_of js) en) js
     (λ j m. let from = image.led j m in

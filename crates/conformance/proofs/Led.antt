@@ -8,6 +8,7 @@ use Rattle.step_values.specs.Leaves.{Leaf}
 use Rattle.step_values.specs.Values as values
 use Rattle.step_values.specs.Values.{Value, leaf, reference, typed, sequence, bag, Values, none, more, Agree, AgreeEach}
 use Rattle.step_values.specs.References.{renamed, renamed_each, EachReference, EachReferenceOf}
+use Rattle.step_values.proofs.Crowds.{by_names}
 use Rattle.express_syntax.specs.Schemas.{Schema, named}
 use Rattle.express_syntax.specs.Profile.{Every}
 use Rattle.schema_semantics.specs.Names.{Name, Among}
@@ -16,15 +17,15 @@ use Rattle.schema_semantics.proofs.Lists.{every-at}
 use Rattle.schema_semantics.proofs.Placed.{is-same, same-itself}
 use Rattle.conformance.specs.Bases as bases
 use Rattle.conformance.specs.Bases.{Base, Domain, base}
-use Rattle.conformance.specs.Fitting.{element}
+use Rattle.conformance.specs.ParameterFits.{element}
 use Rattle.conformance.specs.Populations.{Slot, Instance, instance_at, slot_at}
 use Rattle.conformance.specs.Images.{IsLed}
 use Rattle.conformance.specs.RuleLaws.{names, IsClosed}
 use Rattle.express_logic.specs.Data as data_of
 use Rattle.express_logic.specs.Data.{Shape, Data}
 use Rattle.conformance.specs.Values.{element_datum, leaf_datum, shape_of, datum, each_datum, datum_at}
-use Rattle.conformance.specs.Alike.{IsReordering, unchanged, kept, swapped, joined, InOrder, Alike, AlikeEach}
-use Rattle.conformance.specs.MeaningImages.{IsName, Leads, HasPlacesOnce, IsLedTo}
+use Rattle.conformance.specs.AlikeValues.{IsDataReordering, unchanged, kept, swapped, joined, InOrder, Alike, AlikeEach}
+use Rattle.conformance.specs.MeaningImages.{IsInstanceName, LeadsBy, HasPlacesOnce, IsLedTo}
 
 pub ordered : (s : Shape) (ds : Data) → InOrder s ds ds
 ordered data_of.list ds = refl
@@ -43,11 +44,11 @@ at_name y (z ∷ is) x h = by (z.name == y) refl h (at_name y is x)
         (inl same, subst (λ (i : Instance). i.name ≡ y) same (eqb-true z.name y e))
     by false e k later = let rest = later k in (inr rest.0, rest.1)
 
-pub is_name : (y : ℕ) (is : List Instance) → Among y (names is) → IsName is y
+pub is_name : (y : ℕ) (is : List Instance) → Among y (names is) → IsInstanceName is y
 is_name y [] m = elim m [ ]
 is_name y (z ∷ is) m = by (z.name == y) refl m (is_name y is)
   where
-    by : (b : Bool) → (z.name == y) ≡ b → Among y (z.name ∷ names is) → (Among y (names is) → IsName is y)
+    by : (b : Bool) → (z.name == y) ≡ b → Among y (z.name ∷ names is) → (Among y (names is) → IsInstanceName is y)
         → (x : Instance) × (cond b (Some z) (instance_at is y) ≡ Some x)
     by true e k later = (z, refl)
     by false e (inl same) later =
@@ -70,19 +71,19 @@ module _ {P Q : ℕ → Type 0} (f : (y : ℕ) → P y → Q y) where
 
 module _ (s : Schema) (d : Domain) where
   pub each_reordered : (b : Base) {us ws : Values} → values.IsReordering us ws
-      → IsReordering (each_datum s d b us) (each_datum s d b ws)
+      → IsDataReordering (each_datum s d b us) (each_datum s d b ws)
   each_reordered b (values.unchanged vs) = unchanged (each_datum s d b vs)
   each_reordered b (values.kept v r) = kept (datum s d b v) (each_reordered b r)
   each_reordered b (values.swapped v w vs) = swapped (datum s d b v) (datum s d b w) (each_datum s d b vs)
   each_reordered b (values.joined r q) = joined (each_reordered b r) (each_reordered b q)
 
   module _ (is : List Instance) (h : ℕ → ℕ) where
-    element_same : (b : Base) (e : Name) → Alike (Leads is h) (element_datum b e) (element_datum b e)
+    element_same : (b : Base) (e : Name) → Alike (LeadsBy is h) (element_datum b e) (element_datum b e)
     element_same bases.boolean e = refl
     element_same bases.logical e = refl
     element_same _ e = refl
 
-    leaf_same : (b : Base) (a : Leaf) → Alike (Leads is h) (leaf_datum b a) (leaf_datum b a)
+    leaf_same : (b : Base) (a : Leaf) → Alike (LeadsBy is h) (leaf_datum b a) (leaf_datum b a)
     leaf_same b leaves.unset = tt
     leaf_same b leaves.derived = tt
     leaf_same b (leaves.number z) = refl
@@ -91,14 +92,14 @@ module _ (s : Schema) (d : Domain) where
     leaf_same b (leaves.element e) = element_same b e
 
     mutual
-      pub datum_led : (b : Base) (v w : Value) → EachReference (IsName is) v → Agree (◌==◌) (renamed h v) w
-          → Alike (Leads is h) (datum s d b v) (datum s d b w)
+      pub datum_led : (b : Base) (v w : Value) → EachReference (IsInstanceName is) v → Agree (◌==◌) (renamed h v) w
+          → Alike (LeadsBy is h) (datum s d b v) (datum s d b w)
       datum_led b (leaf a) (leaf c) r e =
-          subst (λ c. Alike (Leads is h) (leaf_datum b a) (leaf_datum b c)) e (leaf_same b a)
+          subst (λ c. Alike (LeadsBy is h) (leaf_datum b a) (leaf_datum b c)) e (leaf_same b a)
       datum_led b (reference y) (reference z) r e = (r, eqb-true (h y) z e)
       datum_led b (typed n v) (typed m w) r e = (
         e.0,
-        subst (λ m. Alike (Leads is h) (datum s d (base d (named n)) v) (datum s d (base d (named m)) w)) e.0
+        subst (λ m. Alike (LeadsBy is h) (datum s d (base d (named n)) v) (datum s d (base d (named m)) w)) e.0
             (datum_led (base d (named n)) v w r e.1),
       )
       datum_led b (sequence vs) (sequence ws) r e = (
@@ -109,19 +110,20 @@ module _ (s : Schema) (d : Domain) where
           ordered (shape_of b) (each_datum s d (element s d b) ws),
         ),
       )
-      datum_led b (bag vs) (bag ws) r e = (
-        refl,
-        (
-          each_datum s d (element s d b) e.0,
-          each_led (element s d b) vs e.0 r e.2,
-          each_reordered (element s d b) e.1,
-        ),
-      )
+      datum_led b (bag vs) (bag ws) r e =
+          let m = by_names (renamed_each h vs) ws e in (
+            refl,
+            (
+              each_datum s d (element s d b) m.0,
+              each_led (element s d b) vs m.0 r m.2,
+              each_reordered (element s d b) m.1,
+            ),
+          )
       datum_led b _ _ r e = absurd e
 
-      each_led : (b : Base) (vs ws : Values) → EachReferenceOf (IsName is) vs
+      each_led : (b : Base) (vs ws : Values) → EachReferenceOf (IsInstanceName is) vs
           → AgreeEach (◌==◌) (renamed_each h vs) ws
-          → AlikeEach (Leads is h) (each_datum s d b vs) (each_datum s d b ws)
+          → AlikeEach (LeadsBy is h) (each_datum s d b vs) (each_datum s d b ws)
       each_led b none none r e = tt
       each_led b (more v vs) (more w ws) r e = (datum_led b v w r.0 e.0, each_led b vs ws r.1 e.1)
       each_led b _ _ r e = absurd e
@@ -204,10 +206,10 @@ slots_led h x z once l p = by (slot_at x.slots p) (slot_at z.slots p) refl refl
 
 -- the references of a value
 pub refers : (is : List Instance) → IsClosed is → (x : Instance) → Among x is → (p : Place) (v : Value)
-    → slot_at x.slots p ≡ Some v → EachReference (IsName is) v
+    → slot_at x.slots p ≡ Some v → EachReference (IsInstanceName is) v
 refers is closed x m p v e =
     let at = at_place p x.slots v e in
-    subst (EachReference (IsName is)) at.3
+    subst (EachReference (IsInstanceName is)) at.3
     (each_other (λ y. is_name y is) at.0.value
     (every-at (λ (y : Slot). EachReference (λ n. Among n (names is)) y.value) at.0 x.slots
     (every-at (λ (i : Instance). Every (λ (y : Slot). EachReference (λ n. Among n (names is)) y.value) i.slots) x is
@@ -216,13 +218,13 @@ refers is closed x m p v e =
 -- what the value of a place is worth
 pub place_led : (s : Schema) (d : Domain) (is js : List Instance) (h : ℕ → ℕ) → IsLedTo is js h → (x z : Instance)
     → Among x is → IsLed h x z → (b : Base) (p : Place)
-    → Alike (Leads is h) (datum_at s d b (slot_at x.slots p)) (datum_at s d b (slot_at z.slots p))
+    → Alike (LeadsBy is h) (datum_at s d b (slot_at x.slots p)) (datum_at s d b (slot_at z.slots p))
 place_led s d is js h to x z m l b p =
     by (slot_at x.slots p) (slot_at z.slots p) refl
     (slots_led h x z (every-at HasPlacesOnce x is to.once m) l p)
   where
     by : (o q : Option Value) → slot_at x.slots p ≡ o → AgreeAt h o q
-        → Alike (Leads is h) (datum_at s d b o) (datum_at s d b q)
+        → Alike (LeadsBy is h) (datum_at s d b o) (datum_at s d b q)
     by None None e a = tt
     by (Some v) (Some w) e a = datum_led s d is h b v w (refers is to.closed x m p v e) a
     by None (Some w) e a = absurd a

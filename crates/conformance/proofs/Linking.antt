@@ -7,21 +7,21 @@ use Rattle.step_literals.specs.Bits.{bits_of}
 use Rattle.step_literals.specs.Decimals.{units, mantissa}
 use Rattle.step_literals.specs.Items.{string_items}
 use Rattle.step_literals.specs.Words.{upper}
-use Rattle.step_lexis.specs.declared.token.Mark.TheVariants.{Dollar, Asterisk}
+use Rattle.step_lexer.specs.declared.token.Mark.TheVariants.{Dollar, Asterisk}
 use Rattle.step_structures.specs.Words as words
 use Rattle.step_structures.specs.Words.{Word}
 use Rattle.step_structures.specs.Trees as trees
 use Rattle.step_structures.specs.Trees.{Tree, Trees}
 use Rattle.step_values.specs.Leaves as leaves
 use Rattle.step_values.specs.Values.{Value, leaf, typed, sequence, bag, Values, none, more, Agree}
-use Rattle.step_values.specs.ComputedAgreement.{size, same_test}
+use Rattle.step_values.specs.AgreementTests.{value_count, same_test}
 use Rattle.step_values.proofs.Deciding.{test_complete}
 use Rattle.express_syntax.specs.Schemas.{Schema}
 use Rattle.schema_semantics.specs.Names.{Name}
 use Rattle.conformance.specs.declared.finding.FindingKind.{FindingKind}
 use Rattle.conformance.specs.declared.finding.FindingKind.TheVariants.{OutOfBounds, NotDistinct, UnknownElement, WrongEntity, NoSelectItem}
 use Rattle.conformance.specs.Bases.{Base, integer, number, boolean, logical, string, binary, enumeration, entity, select, aggregate, Domain, base}
-use Rattle.conformance.specs.Fitting.{Target, absent, unknown, of_types, or_else, needs, in_bounds, has_no_order, is_set, set_ones, differs_from, all_differ, are_distinct, count, is_dollar, is_truth, is_integer, among, misfit_target, misfit_reference, misfit_number, misfit_string, misfit_binary, misfit_element, misfit_word, misfit_inner, misfit_group, misfit, misfit_each, other_kind, inner, or_this, gathered, element, value_as, values_as, word_value}
+use Rattle.conformance.specs.ParameterFits.{Target, absent, unknown, of_types, first_finding, needs, in_bounds, has_no_order, is_set, set_ones, differs_from, all_differ, are_distinct, count, is_dollar, is_truth, is_integer, is_listed, misfit_target, misfit_reference, misfit_number, misfit_string, misfit_binary, misfit_element, misfit_word, misfit_inner, misfit_group, misfit, misfit_each, other_kind, inner, base_or_this, gathered, element, value_as, values_as, word_value}
 use Rattle.conformance.specs.Fits.{LeafFits, Takes, DiffersFrom, AllDiffer, IsLeftOut, Gathers, Typing, Fits, FitEach}
 use Rattle.conformance.proofs.Carrying.{set_same, same_sym}
 use Rattle.conformance.proofs.WholeNumbers.{whole_worth}
@@ -31,11 +31,11 @@ pub needed : (b : Bool) (f : FindingKind) → needs b f ≡ None → b ≡ true
 needed true f e = refl
 needed false f e = absurd (cc)
 
-pub first_none : (a b : Option FindingKind) → or_else a b ≡ None → a ≡ None
+pub first_none : (a b : Option FindingKind) → first_finding a b ≡ None → a ≡ None
 first_none None b e = refl
 first_none (Some f) b e = absurd (cc)
 
-pub second_none : (a b : Option FindingKind) → or_else a b ≡ None → b ≡ None
+pub second_none : (a b : Option FindingKind) → first_finding a b ≡ None → b ≡ None
 second_none None b e = e
 second_none (Some f) b e = absurd (cc)
 
@@ -58,10 +58,10 @@ binary_fits b t e = absurd (no_kind (other_kind b) e)
 element_fits : (b : Base) (n : Name) → misfit_element b n ≡ None → LeafFits b (leaves.element n)
 element_fits boolean n e = needed (is_truth false n) UnknownElement e
 element_fits logical n e = needed (is_truth true n) UnknownElement e
-element_fits (enumeration items) n e = needed (among n items) UnknownElement e
+element_fits (enumeration items) n e = needed (is_listed n items) UnknownElement e
 element_fits b n e = absurd (no_kind (other_kind b) e)
 
-pub sizes : (s : Schema) (d : Domain) (b : Base) (xs : Trees) → count xs ≡ size (values_as s d b xs)
+pub sizes : (s : Schema) (d : Domain) (b : Base) (xs : Trees) → count xs ≡ value_count (values_as s d b xs)
 sizes s d b trees.none = refl
 sizes s d b (trees.one x xs) = ap suc (sizes s d b xs)
 
@@ -119,12 +119,12 @@ module _ (s : Schema) (d : Domain) (target : ℕ → Target) (typing : Typing)
   typed_fits : (b : Base) (word : Name) (x : Tree)
       → ((c : Base) → misfit s d target c x ≡ None → Fits s d typing c (value_as s d c x))
       → misfit_inner s d target (other_kind b) (inner s d b word) (λ c. misfit s d target c x) ≡ None
-      → Fits s d typing b (typed word (value_as s d (or_this s d b (inner s d b word)) x))
+      → Fits s d typing b (typed word (value_as s d (base_or_this s d b (inner s d b word)) x))
   typed_fits b word x f m = go (inner s d b word) refl m
     where
       go : (o : Option Base) → inner s d b word ≡ o
           → misfit_inner s d target (other_kind b) o (λ c. misfit s d target c x) ≡ None
-          → Fits s d typing b (typed word (value_as s d (or_this s d b o) x))
+          → Fits s d typing b (typed word (value_as s d (base_or_this s d b o) x))
       go None i n = absurd (no_kind (other_kind b) n)
       go (Some c) i n = (c, i, f c n)
 
@@ -154,7 +154,7 @@ module _ (s : Schema) (d : Domain) (target : ℕ → Target) (typing : Typing)
       each_then : Option FindingKind
       each_then = misfit_each s d target a.optional (base d a.element) xs
 
-      rest : or_else each_then (needs (not a.unique || are_distinct vs) NotDistinct) ≡ None
+      rest : first_finding each_then (needs (not a.unique || are_distinct vs) NotDistinct) ≡ None
       rest = second_none in_bounds_first _ m
 
       either : (u d : Bool) → (not u || d) ≡ true → u ≡ true → d ≡ true

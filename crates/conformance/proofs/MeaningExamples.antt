@@ -25,7 +25,7 @@ use Rattle.express_logic.specs.Logic.{known, negated, both}
 use Rattle.express_logic.specs.Literals.{whole_units}
 use Rattle.express_logic.specs.Data as data_of
 use Rattle.express_logic.specs.Data.{Datum, Data, list, bag, array, indeterminate, number, logical, aggregate, none, more}
-use Rattle.express_logic.specs.Comparing.{equal}
+use Rattle.express_logic.specs.Comparison.{equal}
 use Rattle.express_logic.proofs.Ordered.{counts_by}
 use Rattle.conformance.specs.Attributes.{derived, Formula, Attributes}
 use Rattle.conformance.specs.Operations.{says, size, high_index, low_index, indexed, queried, compared}

@@ -11,7 +11,7 @@ use Rattle.schema_semantics.proofs.Supertypes.{kinds-are-apart}
 use Rattle.schema_semantics.proofs.Ranking.{ranks-are-one}
 use Rattle.conformance.specs.Rules.{InverseAttribute}
 use Rattle.conformance.specs.Attributes.{Source, explicit, derived, inverse, unclear, Formula, DerivesFirst, IsLowest, IsDeclaring, IsGroupMember, IsFormula, IsSource, IsNamed, IsInGroup}
-use Rattle.conformance.specs.DomainRules.{DomainRule, Statement, statements_in, AreChecked}
+use Rattle.conformance.specs.DomainRules.{DomainRule, DomainStatement, statements_in, AreChecked}
 use Rattle.conformance.specs.MeaningLaws.{AttributesAreOne, DomainRulesAreOne}
 
 one_entity : (x y : Entity) → Some (entity x) ≡ Some (entity y) → x ≡ y
@@ -154,12 +154,12 @@ attributes_are_one s inverses resolved a b h k = λ i. record {
 
 -- domain rules
 module _ (s : Schema) where
-  rule_is : (x : Statement) (c f : Tree) (ps qs : List DomainRule) → c ≡ f → ps ≡ qs
+  rule_is : (x : DomainStatement) (c f : Tree) (ps qs : List DomainRule) → c ≡ f → ps ≡ qs
       → ◌≡◌ {A = List DomainRule} (record { holder = x.holder; label = x.label; condition = c } ∷ ps)
       (record { holder = x.holder; label = x.label; condition = f } ∷ qs)
   rule_is x c f ps qs e r = λ i. record { holder = x.holder; label = x.label; condition = e i } ∷ r i
 
-  one_list : (xs : List Statement) (ps qs : List DomainRule) → AreChecked s xs ps → AreChecked s xs qs → ps ≡ qs
+  one_list : (xs : List DomainStatement) (ps qs : List DomainRule) → AreChecked s xs ps → AreChecked s xs qs → ps ≡ qs
   one_list [] ps qs h k = h ∙ sym k
   one_list (x ∷ xs) ps qs (inl (free, c, at, more, e, rest)) (inl (free', f, there, others, g, left)) =
       e ∙ (rule_is x c f more others (one_tree c f (sym at ∙ there)) (one_list xs more others rest left) ∙ sym g)

@@ -9,7 +9,7 @@ use Rattle.schema_semantics.proofs.Geo.{POINT, DIRECTION, PLACEMENT, SHAPE, SOLI
 use Rattle.express_syntax.specs.Trees.{literal, text}
 use Rattle.conformance.specs.Bases as bases
 use Rattle.conformance.specs.Bases.{Base, Domain}
-use Rattle.conformance.specs.Fitting.{among}
+use Rattle.conformance.specs.ParameterFits.{is_listed}
 use Rattle.conformance.specs.Populations.{Instance}
 use Rattle.conformance.proofs.GeoRules.{the_notes}
 use Rattle.conformance.proofs.RuleSamples.{instance, slot}
@@ -44,7 +44,7 @@ rows =
 
 abbrev source_in : List Name → Name → List Row → Option Source
 source_in types a [] = None
-source_in types a (r ∷ rs) = cond (among r.entity types && bytes_eq r.name a) (Some r.source) (source_in types a rs)
+source_in types a (r ∷ rs) = cond (is_listed r.entity types && bytes_eq r.name a) (Some r.source) (source_in types a rs)
 
 abbrev or_unclear : Option Source → Source
 or_unclear None = unclear
@@ -59,7 +59,7 @@ formula_of (e, suc n) = None
 abbrev pub attributes : Attributes
 attributes = record {
   source = λ types a. source_in types a rows;
-  source_of = λ types e a. cond (among e types) (or_unclear (source_in types a rows)) unclear;
+  source_of = λ types e a. cond (is_listed e types) (or_unclear (source_in types a rows)) unclear;
   formula = formula_of;
   is_defined_by = λ m n. bytes_eq m n;
 }

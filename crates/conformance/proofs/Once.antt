@@ -5,11 +5,11 @@ use Rattle.std.proofs.Common.{refl, ap, sym, subst, ◌∙◌, inl, inr}
 use Rattle.std.proofs.lemmas.Map.Keys.{IsDistinct-cons, IsDistinct-head, IsDistinct-tail}
 use Rattle.std.proofs.lemmas.Slice.Eq.{bytes_eq-Decides}
 use Rattle.step_structures.specs.Trees as trees
-use Rattle.step_structures.specs.Trees.{Trees, Record, Form, internal, external, Row, Section, File, rows_of}
+use Rattle.step_structures.specs.Trees.{Trees, Record, Form, internal, external, ExchangeRow, Section, File, rows_of}
 use Rattle.express_syntax.specs.Schemas.{Schema, Declaration, type, entity, skipped, Entity}
 use Rattle.express_syntax.specs.Profile.{Every}
 use Rattle.schema_semantics.specs.Names.{Name, Among, entities, explicit_names, derived_names, inverse_names, attribute_names, IsEntityAt}
-use Rattle.schema_semantics.specs.Faults.{IsResolved, declared, declared_from, in_scope, items_of}
+use Rattle.schema_semantics.specs.Faults.{IsResolved, declared, declared_from, in_scope, enumerated_items}
 use Rattle.schema_semantics.specs.Attributes.{Place, same_place}
 use Rattle.schema_semantics.proofs.Bools.{is-false}
 use Rattle.schema_semantics.proofs.Lists.{AreFresh, are-fresh, fresh-right, among-left, among-either, among-map, from-flat}
@@ -17,11 +17,11 @@ use Rattle.schema_semantics.proofs.Placed.{is-same, places-stand-once}
 use Rattle.schema_semantics.proofs.Recursion.{declared-entity}
 use Rattle.schema_semantics.proofs.Supertypes.{stands, entity-name, found}
 use Rattle.conformance.specs.Bases.{Domain}
-use Rattle.conformance.specs.Fitting.{entity_names, among, is_entity}
+use Rattle.conformance.specs.ParameterFits.{entity_names, is_listed, is_entity}
 use Rattle.conformance.specs.Entities.{Entities, AreEntities, records, parameters, named_entity, own_in, own_places_of, types_of, places_of, unknown_entities}
 use Rattle.conformance.specs.Populations.{Slot, Instance, slots_of, instance_of, instances_from}
 use Rattle.conformance.specs.MeaningImages.{HasPlacesOnce}
-use Rattle.conformance.specs.MeaningLaws.{IsWhole, FilesHavePlacesOnce}
+use Rattle.conformance.specs.MeaningLaws.{HasDistinctEntities, FilesHavePlacesOnce}
 
 -- lists in which nothing stands twice
 nil_once : {A : Type 0} (same : A → A → Bool) → IsDistinct same []
@@ -64,7 +64,7 @@ fresh_in : (k : ℕ) (ds : List Declaration) (e : Entity) → AreFresh (declared
 fresh_in k [] e f m = elim m [ ]
 fresh_in k (type t ∷ ds) e f (inl h) = absurd (cc)
 fresh_in k (type t ∷ ds) e f (inr m) =
-    fresh_in (k + 1) ds e (fresh-right (in_scope k (items_of t.underlying)) (declared_from (k + 1) ds) f.1) m
+    fresh_in (k + 1) ds e (fresh-right (in_scope k (enumerated_items t.underlying)) (declared_from (k + 1) ds) f.1) m
 fresh_in k (entity x ∷ ds) e f (inl h) =
     let same : x ≡ e = cc in
     subst (λ y. AreFresh (attribute_names y)) same
@@ -95,12 +95,12 @@ module _ (s : Schema) (resolved : IsResolved s) where
   fresh : AreFresh (declared s)
   fresh = are-fresh (declared s) resolved.once
 
-  any_among : (n : Name) (ns : List Name) → among n ns ≡ true → Among n ns
+  any_among : (n : Name) (ns : List Name) → is_listed n ns ≡ true → Among n ns
   any_among n [] h = absurd (cc)
   any_among n (m ∷ ns) h = by (bytes_eq n m) refl h (any_among n ns)
     where
       by : (b : Bool) → bytes_eq n m ≡ b → (b || list_any (bytes_eq n) ns) ≡ true
-          → (among n ns ≡ true → Among n ns) → Among n (m ∷ ns)
+          → (is_listed n ns ≡ true → Among n ns) → Among n (m ∷ ns)
       by true e h rest = inl (sym ((bytes_eq-Decides n m).0 e))
       by false e h rest = inr (rest h)
 
@@ -208,7 +208,7 @@ module _ (s : Schema) (resolved : IsResolved s) where
         (front (λ q. same_place p q ≡ false) types ps xs (IsDistinct-head same_place p ps h))
         (slots_once types ps xs (IsDistinct-tail same_place p ps h))
 
-    rows_once : (k : ℕ) (rs : List Row) → Every (IsWhole s en) rs → (more : List Instance) → Every HasPlacesOnce more
+    rows_once : (k : ℕ) (rs : List ExchangeRow) → Every (HasDistinctEntities s en) rs → (more : List Instance) → Every HasPlacesOnce more
         → Every HasPlacesOnce (map (instance_of s d en k) rs ++ more)
     rows_once k [] h more m = m
     rows_once k (r ∷ rs) h more m = (
@@ -217,11 +217,11 @@ module _ (s : Schema) (resolved : IsResolved s) where
       rows_once k rs h.1 more m,
     )
 
-    behind : (rs ts : List Row) → Every (IsWhole s en) (rs ++ ts) → Every (IsWhole s en) rs × Every (IsWhole s en) ts
+    behind : (rs ts : List ExchangeRow) → Every (HasDistinctEntities s en) (rs ++ ts) → Every (HasDistinctEntities s en) rs × Every (HasDistinctEntities s en) ts
     behind [] ts h = (tt, h)
     behind (r ∷ rs) ts h = let rest = behind rs ts h.1 in ((h.0, rest.0), rest.1)
 
-    sections_once : (k : ℕ) (xs : List Section) → Every (IsWhole s en) (rows_of xs)
+    sections_once : (k : ℕ) (xs : List Section) → Every (HasDistinctEntities s en) (rows_of xs)
         → Every HasPlacesOnce (instances_from s d en k xs)
     sections_once k [] h = tt
     sections_once k (x ∷ xs) h =

@@ -19,7 +19,7 @@ use Rattle.conformance.specs.Attributes.{Attributes, AreAttributes}
 use Rattle.conformance.specs.Meanings.{meaning}
 use Rattle.conformance.specs.DomainRules.{DomainRule, holder_name}
 use Rattle.conformance.specs.DomainFindings.{least, is_false, selves, outcome, breaches_at}
-use Rattle.conformance.specs.MeaningImages.{Leads, IsKept}
+use Rattle.conformance.specs.MeaningImages.{LeadsBy, IsKept}
 use Rattle.conformance.specs.MeaningLaws.{ImagesKeepRules, NoBreachInImages}
 use Rattle.conformance.proofs.Comparisons.{alike_says}
 use Rattle.conformance.proofs.Led.{at_name}
@@ -131,7 +131,7 @@ module _ (s : Schema) (d : Domain) (en : Entities) (inverses : List InverseAttri
       after : Datum → Logical
       after self = says (meaning s d en attributes js self r.condition)
 
-      same : SameValues (Leads is h) (selves s d en attributes x r.holder) (selves s d en attributes z r.holder)
+      same : SameValues (LeadsBy is h) (selves s d en attributes x r.holder) (selves s d en attributes z r.holder)
       same = selves_same s d en attributes is js h keeps.instances_led y x z at there led r.holder
 
       forth : (p : Logical) → Among p (map before (selves s d en attributes x r.holder))
@@ -140,7 +140,7 @@ module _ (s : Schema) (d : Domain) (en : Entities) (inverses : List InverseAttri
           let from = from-map before (selves s d en attributes x r.holder) p m in
           let to = same.forth from.0 from.1 in
           let one : after to.0 ≡ p =
-          sym (alike_says (Leads is h) (meaning s d en attributes is from.0 r.condition)
+          sym (alike_says (LeadsBy is h) (meaning s d en attributes is from.0 r.condition)
           (meaning s d en attributes js to.0 r.condition)
           (kept_meaning s d en inverses attributes are is js h keeps from.0 to.0 to.2 r.condition)) ∙ from.2 in
           subst (λ q. Among q (map after (selves s d en attributes z r.holder))) one
@@ -152,7 +152,7 @@ module _ (s : Schema) (d : Domain) (en : Entities) (inverses : List InverseAttri
           let from = from-map after (selves s d en attributes z r.holder) p m in
           let to = same.back from.0 from.1 in
           let one : before to.0 ≡ p =
-          alike_says (Leads is h) (meaning s d en attributes is to.0 r.condition)
+          alike_says (LeadsBy is h) (meaning s d en attributes is to.0 r.condition)
           (meaning s d en attributes js from.0 r.condition)
           (kept_meaning s d en inverses attributes are is js h keeps to.0 from.0 to.2 r.condition) ∙ from.2 in
           subst (λ q. Among q (map before (selves s d en attributes x r.holder))) one

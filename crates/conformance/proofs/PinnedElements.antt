@@ -8,9 +8,9 @@ use Rattle.schema_semantics.proofs.Lists.{every-of}
 use Rattle.conformance.specs.Bases.{Base, Domain, base}
 use Rattle.conformance.specs.Entities.{Entities, data_types}
 use Rattle.conformance.specs.Populations.{Slot, Instance}
-use Rattle.conformance.specs.Apart.{Occurs, OccursIn, KeepsApart, KeepEachApart}
+use Rattle.conformance.specs.SeparatingMaps.{Occurs, OccursIn, KeepsApart, KeepEachApart}
 use Rattle.conformance.specs.Images.{KeepsSlotApart, KeepsInstanceApart}
-use Rattle.conformance.specs.Standing.{InBag, InBagOf, InUnique, InUniqueOf, StandsInBag, StandsInUnique}
+use Rattle.conformance.specs.CollectionMembers.{InBag, InBagOf, InUnique, InUniqueOf, StandsInBag, StandsInUnique}
 use Rattle.conformance.proofs.Declared.{one_is}
 
 -- what stands in a BAG occurs

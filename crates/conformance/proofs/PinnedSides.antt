@@ -6,11 +6,11 @@ use Rattle.schema_semantics.proofs.Lists.{among-map}
 use Rattle.conformance.specs.Populations.{Instance}
 use Rattle.conformance.specs.RuleLaws.{names}
 use Rattle.conformance.proofs.There.{pinned_are_there}
-use Rattle.conformance.specs.MeaningImages.{IsName}
+use Rattle.conformance.specs.MeaningImages.{IsInstanceName}
 use Rattle.conformance.specs.MeaningLaws.{PinsTellApart}
 use Rattle.conformance.proofs.Led.{at_name}
 
-there : (is : List Instance) (y : ℕ) → IsName is y → Among y (names is)
+there : (is : List Instance) (y : ℕ) → IsInstanceName is y → Among y (names is)
 there is y (x, e) =
     let known = at_name y is x e in
     subst (λ n. Among n (names is)) known.1 (among-map (λ (i : Instance). i.name) x is known.0)

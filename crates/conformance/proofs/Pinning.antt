@@ -4,15 +4,15 @@ use Rattle.std.proofs.Common.{refl, sym, subst, inl, inr, eqb-true, eq-eqb}
 use Rattle.std.proofs.lemmas.Bool.{and_parts, and_from, or_cases, or_left, or_right, cases_eq, both_ways}
 use Rattle.step_values.proofs.References.{each_weaker_of}
 use Rattle.step_values.proofs.Agreement.{agree_each_refl, agree_each_trans}
-use Rattle.step_equal.specs.Rows.{Row, row_at, IsName, IsPopulation}
-use Rattle.step_equal.specs.Keeping.{under, AreAlike, AgreeUnder, Keeps, ValueEqual}
-use Rattle.step_equal.specs.Images.{kernel}
-use Rattle.step_equal.proofs.Kernels.{kernel_from, kernels_are_congruences}
-use Rattle.step_equal.proofs.Lookup.{held_name, name_held}
-use Rattle.step_equal.proofs.Pairs.{alike_refl, agree_under_refl}
-use Rattle.step_equal.proofs.Congruences.{value_equality_is_congruence}
+use Rattle.value_equality.specs.Rows.{Row, row_at, IsName, IsPopulation}
+use Rattle.value_equality.specs.ValueEquality.{under, AreAlike, AgreeUnder, Keeps, ValueEqual}
+use Rattle.value_equality.specs.Images.{kernel}
+use Rattle.value_equality.proofs.Kernels.{kernel_from, kernels_are_congruences}
+use Rattle.value_equality.proofs.Lookup.{held_name, name_held}
+use Rattle.value_equality.proofs.Pairs.{alike_refl, agree_under_refl}
+use Rattle.value_equality.proofs.Congruences.{value_equality_is_congruence}
 use Rattle.conformance.specs.Populations.{Slot}
-use Rattle.conformance.specs.Standing.{InBag, StandsInBag}
+use Rattle.conformance.specs.CollectionMembers.{InBag, StandsInBag}
 use Rattle.conformance.specs.RuleLaws.{WeakPinsAreGentle, GentlePinsArePlain, BagReferencesArePinned, ElementsAreToldApart, PinsPartClasses, ImagesStayInClasses, ElementsAreNotMerged}
 use Rattle.conformance.proofs.Standing.{some_other, one_is, inside_stands, beside_stands, together_beside, bags_held}
 

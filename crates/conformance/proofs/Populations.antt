@@ -2,14 +2,14 @@
 use Rattle.std.specs.Prelude.{◌≡◌, ℕ, suc, Bool, true, false, cond, List, [], ◌∷◌, ◌++◌, map, flat_map}
 use Rattle.std.specs.List.{filter}
 use Rattle.std.proofs.Common.{refl, ◌∙◌, ap, inl, inr}
-use Rattle.step_structures.specs.Trees.{Row, Section, File, rows_of, Form, internal, external}
+use Rattle.step_structures.specs.Trees.{ExchangeRow, Section, File, rows_of, Form, internal, external}
 use Rattle.express_syntax.specs.Schemas.{Schema, DataType}
 use Rattle.express_syntax.specs.Profile.{Every}
 use Rattle.schema_semantics.specs.Names.{Name, Among}
 use Rattle.schema_semantics.specs.Attributes.{Place}
 use Rattle.conformance.specs.declared.finding.FindingKind.TheVariants.{UnknownEntity}
 use Rattle.conformance.specs.Bases.{Domain, base}
-use Rattle.conformance.specs.Fitting.{Target, entity_names, among}
+use Rattle.conformance.specs.ParameterFits.{Target, entity_names, is_listed}
 use Rattle.conformance.specs.Entities.{Entities, named_entity, types_of, unknown_entities, data_types}
 use Rattle.conformance.specs.Findings.{target_in, row_findings, findings}
 use Rattle.conformance.specs.Populations.{Instance, instance_of, instances_from, population_of}
@@ -32,7 +32,7 @@ among_filter test x (y ∷ ys) h = by (test y) h (among_filter test x ys)
 
 known_types : (s : Schema) (en : Entities) (f : Form) (n : Name) → Among n (types_of s en f) → Among n (entity_names s)
 known_types s en (internal r) n m = among_filter (en.is_kind_of (named_entity r)) n (entity_names s) m
-known_types s en (external rs) n m = among_filter (λ e. among e (map named_entity rs)) n (entity_names s) m
+known_types s en (external rs) n m = among_filter (λ e. is_listed e (map named_entity rs)) n (entity_names s) m
 
 pub types_alike : (s : Schema) (d : Domain) (en : Entities) → AreOf s d en → (f : Form) (p : Place) (k l : DataType)
     → Among k (data_types s en (types_of s en f) p) → Among l (data_types s en (types_of s en f) p)
@@ -65,9 +65,9 @@ every_other P Q f [] h = tt
 every_other P Q f (x ∷ xs) h = (f x h.0, every_other P Q f xs h.1)
 
 module _ (s : Schema) (d : Domain) (en : Entities) where
-  module _ (P : Row → Type 0) (Q : Instance → Type 0)
-      (forth : (k : ℕ) (r : Row) → P r → Q (instance_of s d en k r)) where
-    of_rows : (k : ℕ) (rows : List Row) → Every P rows → Every Q (map (instance_of s d en k) rows)
+  module _ (P : ExchangeRow → Type 0) (Q : Instance → Type 0)
+      (forth : (k : ℕ) (r : ExchangeRow) → P r → Q (instance_of s d en k r)) where
+    of_rows : (k : ℕ) (rows : List ExchangeRow) → Every P rows → Every Q (map (instance_of s d en k) rows)
     of_rows k [] h = tt
     of_rows k (r ∷ rows) h = (forth k r h.0, of_rows k rows h.1)
 

@@ -3,7 +3,7 @@ use Rattle.std.specs.Prelude.{◌≡◌, ℕ, suc, ◌&&◌, Bool, true, false, 
 use Rattle.std.proofs.Common.{refl, ◌∙◌, ap, subst, inl, inr}
 use Rattle.std.proofs.lemmas.Bool.{and_from}
 use Rattle.step_structures.specs.Trees as trees
-use Rattle.step_structures.specs.Trees.{Tree, Trees, Row, Section, File, rows_of}
+use Rattle.step_structures.specs.Trees.{Tree, Trees, ExchangeRow, Section, File, rows_of}
 use Rattle.step_values.specs.Leaves as leaves
 use Rattle.step_values.specs.Values.{leaf}
 use Rattle.express_syntax.specs.Schemas.{Schema, DataType}
@@ -15,13 +15,13 @@ use Rattle.conformance.specs.declared.finding.FindingKind.TheVariants.{UnknownEn
 use Rattle.conformance.specs.declared.finding.Spot.TheVariants.{Nothing}
 use Rattle.conformance.specs.declared.finding.Finding.{Finding}
 use Rattle.conformance.specs.Bases.{Domain, base}
-use Rattle.conformance.specs.Fitting.{Target, of_types, is_dollar, is_star_or_dollar, value_as}
+use Rattle.conformance.specs.ParameterFits.{Target, of_types, is_dollar, is_star_or_dollar, value_as}
 use Rattle.conformance.specs.Entities.{Entities, records, parameters, types_of, places_of, unknown_entities, abstract_leaves, missing_supertypes, broken_one_ofs, wrong_counts, is_derived, is_optional, data_types}
-use Rattle.conformance.specs.Findings.{whole, or_next, at_place, misfit_of, misfits_from, row_findings, target_in, is_of_schema, findings}
+use Rattle.conformance.specs.Findings.{whole_findings, or_next, at_place, misfit_of, misfits_from, row_findings, target_in, is_of_schema, findings}
 use Rattle.conformance.specs.Populations.{Instance, first_base, slots_of, instance_of, instances_from, population_of}
 use Rattle.conformance.specs.Fits.{Typing, Fits}
-use Rattle.conformance.specs.Spelt.{IsSpelt}
-use Rattle.conformance.specs.SpeltRecords.{GivenSpelt, AreSpelt, IsRowSpelt}
+use Rattle.conformance.specs.ValueSpellings.{IsSpelt}
+use Rattle.conformance.specs.RecordSpellings.{GivenSpelt, AreSpelt, IsRowSpelt}
 use Rattle.conformance.specs.Conforming.{FitsAll, ValueFits, SlotFits, Conforms, typing_of, PopulationConforms}
 use Rattle.conformance.specs.PopulationLaws.{AreOf}
 use Rattle.conformance.proofs.Returning.{both_none, unset_dollar, fits_back}
@@ -80,10 +80,10 @@ module _ (s : Schema) (d : Domain) (en : Entities) (target : ℕ → Target) (ty
   next_empty : (xs ys : List Finding) → xs ≡ [] → ys ≡ [] → or_next xs ys ≡ []
   next_empty xs ys e f = ap (λ zs. or_next zs ys) e ∙ f
 
-  no_whole : (name : ℕ) (kind : FindingKind) (n : ℕ) → n ≡ 0 → whole name kind n ≡ []
-  no_whole name kind n e = ap (whole name kind) e
+  no_whole : (name : ℕ) (kind : FindingKind) (n : ℕ) → n ≡ 0 → whole_findings name kind n ≡ []
+  no_whole name kind n e = ap (whole_findings name kind) e
 
-  row_back : (k : ℕ) (r : Row) → ((p : Place) (k l : DataType) → Among k (data_types s en (types_of s en r.form) p)
+  row_back : (k : ℕ) (r : ExchangeRow) → ((p : Place) (k l : DataType) → Among k (data_types s en (types_of s en r.form) p)
       → Among l (data_types s en (types_of s en r.form) p) → IsLike s d (base d k) (base d l)) → IsRowSpelt s d en r
       → Conforms s d typing en (instance_of s d en k r) → row_findings s d en target r ≡ []
   row_back k r alike h c =
@@ -97,9 +97,9 @@ module _ (s : Schema) (d : Domain) (en : Entities) (target : ℕ → Target) (ty
       (slots_back (types_of s en r.form) alike r.name 0 (places_of s en r.form) (parameters (records r.form))
       h.values c.slots)))
 
-module _ (s : Schema) (d : Domain) (en : Entities) (P Z : Row → Type 0) (Q : Instance → Type 0)
-    (back : (k : ℕ) (r : Row) → P r → Q (instance_of s d en k r) → Z r) where
-  rows_back : (k : ℕ) (rows : List Row) → Every P rows → Every Q (map (instance_of s d en k) rows) → Every Z rows
+module _ (s : Schema) (d : Domain) (en : Entities) (P Z : ExchangeRow → Type 0) (Q : Instance → Type 0)
+    (back : (k : ℕ) (r : ExchangeRow) → P r → Q (instance_of s d en k r) → Z r) where
+  rows_back : (k : ℕ) (rows : List ExchangeRow) → Every P rows → Every Q (map (instance_of s d en k) rows) → Every Z rows
   rows_back k [] h c = tt
   rows_back k (r ∷ rows) h c = (back k r h.0 c.0, rows_back k rows h.1 c.1)
 

@@ -5,23 +5,24 @@ use Rattle.std.proofs.Common.{refl, ap, sym, subst, ◌∙◌, inl, inr, arith, 
 use Rattle.step_values.specs.Values as values
 use Rattle.step_values.specs.Values.{Value, leaf, reference, typed, sequence, bag, Values, none, more, Agree, AgreeEach}
 use Rattle.step_values.specs.References.{renamed, renamed_each}
+use Rattle.step_values.proofs.Crowds.{by_names}
 use Rattle.schema_semantics.specs.Names.{OneOf, Among}
 use Rattle.schema_semantics.proofs.Lists.{every-at, among-map, from-flat, from-map}
-use Rattle.conformance.specs.Fitting.{among}
+use Rattle.conformance.specs.ParameterFits.{is_listed}
 use Rattle.conformance.specs.Populations.{Instance, instance_at, slot_at, types_in}
-use Rattle.conformance.specs.Apart.{Occurs, OccursIn}
+use Rattle.conformance.specs.SeparatingMaps.{Occurs, OccursIn}
 use Rattle.conformance.specs.Images.{IsLed}
 use Rattle.conformance.specs.Rules.{InverseAttribute}
-use Rattle.conformance.specs.Referring.{times, times_in, times_at, references, holds, held, inverse_value}
-use Rattle.conformance.specs.Pins.{OccursAt, Refers, IsInverseSide}
+use Rattle.conformance.specs.Referrers.{times, times_in, times_at, references, holds, held, inverse_value}
+use Rattle.conformance.specs.Pins.{OccursAt, RefersByInverse, IsInverseSide}
 use Rattle.conformance.specs.RuleLaws.{names}
 use Rattle.conformance.proofs.Standing.{one_is}
 use Rattle.conformance.proofs.Holding.{inverse_sides_are_held}
 use Rattle.conformance.proofs.There.{at}
 use Rattle.express_logic.specs.Data as data_of
-use Rattle.conformance.specs.Meanings.{instances}
-use Rattle.conformance.specs.Alike.{unchanged, AlikeEach, AlikeIn}
-use Rattle.conformance.specs.MeaningImages.{IsName, Leads, HasPlacesOnce, IsLedTo}
+use Rattle.conformance.specs.Meanings.{instance_data}
+use Rattle.conformance.specs.AlikeValues.{unchanged, AlikeEach, AlikeIn}
+use Rattle.conformance.specs.MeaningImages.{IsInstanceName, LeadsBy, HasPlacesOnce, IsLedTo}
 use Rattle.conformance.specs.MeaningLaws.{IsOnto, InverseValuesAreLed}
 use Rattle.conformance.proofs.MeaningOneness.{one_truth}
 use Rattle.conformance.proofs.Led.{at_name, is_name, AgreeAt, slots_led, refers}
@@ -60,7 +61,8 @@ module _ (h : ℕ → ℕ) (y : ℕ) where
     times_led (reference u) (reference z) only e = ap weight (same_one u z e (only u refl))
     times_led (typed n v) (typed m w) only e = times_led v w only e.1
     times_led (sequence vs) (sequence ws) only e = times_led_in vs ws only e
-    times_led (bag vs) (bag ws) only e = sym (times_reordered (h y) e.1) ∙ times_led_in vs e.0 only e.2
+    times_led (bag vs) (bag ws) only e =
+        let m = by_names (renamed_each h vs) ws e in sym (times_reordered (h y) m.1) ∙ times_led_in vs m.0 only m.2
     times_led _ _ only e = absurd e
 
     times_led_in : (vs ws : Values) → IsAloneIn vs → AgreeEach (◌==◌) (renamed_each h vs) ws
@@ -79,7 +81,7 @@ repeated (suc n) w v (inl e) = e
 repeated (suc n) w v (inr m) = repeated n w v m
 
 own_name : (i : InverseAttribute) (y : ℕ) (x : Instance) (v : ℕ) → Among v (held i y x) → x.name ≡ v
-own_name i y x v m = by (among i.referrer x.types) m
+own_name i y x v m = by (is_listed i.referrer x.types) m
   where
     by : (b : Bool) → Among v (cond b (repeat (holds i.gathering (references x i.inverted y)) (x.name ∷ [])) [])
         → x.name ≡ v
@@ -95,8 +97,8 @@ count_repeated (suc n) w v e =
 
 -- so often the instance itself stands in what it gives
 count_held : (i : InverseAttribute) (y : ℕ) (x : Instance)
-    → count x.name (held i y x) ≡ cond (among i.referrer x.types) (holds i.gathering (references x i.inverted y)) 0
-count_held i y x = by (among i.referrer x.types)
+    → count x.name (held i y x) ≡ cond (is_listed i.referrer x.types) (holds i.gathering (references x i.inverted y)) 0
+count_held i y x = by (is_listed i.referrer x.types)
   where
     by : (b : Bool) → count x.name (cond b (repeat (holds i.gathering (references x i.inverted y)) (x.name ∷ [])) [])
         ≡ cond b (holds i.gathering (references x i.inverted y)) 0
@@ -105,31 +107,31 @@ count_held i y x = by (among i.referrer x.types)
 
 module _ (is js : List Instance) (h : ℕ → ℕ) (distinct : IsDistinct (◌==◌) (names is))
     (others : IsDistinct (◌==◌) (names js)) (to : IsLedTo is js h) (onto : IsOnto is js h) (i : InverseAttribute)
-    (apart : (y z : ℕ) → IsName is y → IsInverseSide is z i → h y ≡ h z → y ≡ z) where
+    (apart : (y z : ℕ) → IsInstanceName is y → IsInverseSide is z i → h y ≡ h z → y ≡ z) where
   -- a reference to an instance of the entity is on a side
-  is_side : (x z : Instance) → Among x is → Among z is → Refers i x z → IsInverseSide is z.name i
+  is_side : (x z : Instance) → Among x is → Among z is → RefersByInverse i x z → IsInverseSide is z.name i
   is_side x z m n r =
-      one_is (λ (x : Instance). OneOf (λ (u : Instance). Refers i x u × ((x.name ≡ z.name) ⊎ (u.name ≡ z.name))) is) x
-      is m (one_is (λ (u : Instance). Refers i x u × ((x.name ≡ z.name) ⊎ (u.name ≡ z.name))) z is n (r, inr refl))
+      one_is (λ (x : Instance). OneOf (λ (u : Instance). RefersByInverse i x u × ((x.name ≡ z.name) ⊎ (u.name ≡ z.name))) is) x
+      is m (one_is (λ (u : Instance). RefersByInverse i x u × ((x.name ≡ z.name) ⊎ (u.name ≡ z.name))) z is n (r, inr refl))
 
   -- an instance that a referrer names beside y isn't led to where y is
-  module _ (y : ℕ) (o : Instance) (here : instance_at is y ≡ Some o) (entity : IsTrue (among i.entity o.types)) where
+  module _ (y : ℕ) (o : Instance) (here : instance_at is y ≡ Some o) (entity : IsTrue (is_listed i.entity o.types)) where
     some_instance : (u v : Instance) → Some u ≡ Some v → u ≡ v
     some_instance u v e = cc
 
-    of_entity : (z : ℕ) (u : Instance) → instance_at is z ≡ Some u → h z ≡ h y → IsTrue (among i.entity u.types)
+    of_entity : (z : ℕ) (u : Instance) → instance_at is z ≡ Some u → h z ≡ h y → IsTrue (is_listed i.entity u.types)
     of_entity z u there e =
         let a = to.led y o here in
         let b = to.led z u there in
         let same : b.0 ≡ a.0 =
         some_instance b.0 a.0 (sym b.1 ∙ (ap (instance_at js) e ∙ a.1)) in
-        subst (λ ts. IsTrue (among i.entity ts))
+        subst (λ ts. IsTrue (is_listed i.entity ts))
         (a.2.types ∙ (sym (ap (λ (k : Instance). k.types) same) ∙ sym b.2.types)) entity
 
-    alone_at : (x : Instance) → Among x is → IsTrue (among i.referrer x.types) → (v : Value)
+    alone_at : (x : Instance) → Among x is → IsTrue (is_listed i.referrer x.types) → (v : Value)
         → slot_at x.slots i.inverted ≡ Some v → IsAlone h y v
     alone_at x m r v q z occurs e =
-        let named = at (IsName is) z v (refers is to.closed x m i.inverted v q) occurs in
+        let named = at (IsInstanceName is) z v (refers is to.closed x m i.inverted v q) occurs in
         let known = at_name z is named.0 named.1 in
         let there : OccursAt named.0.name (slot_at x.slots i.inverted) =
         subst (OccursAt named.0.name) (sym q) (subst (λ k. Occurs k v) (sym known.1) occurs) in
@@ -138,7 +140,7 @@ module _ (is js : List Instance) (h : ℕ → ℕ) (distinct : IsDistinct (◌==
         (is_side x named.0 m known.0 (r, there, of_entity z named.0 named.1 e)) in
         sym (apart y z (o, here) side (sym e))
 
-    references_led : (x z : Instance) → Among x is → IsLed h x z → IsTrue (among i.referrer x.types)
+    references_led : (x z : Instance) → Among x is → IsLed h x z → IsTrue (is_listed i.referrer x.types)
         → references z i.inverted (h y) ≡ references x i.inverted y
     references_led x z m l r =
         by (slot_at x.slots i.inverted) (slot_at z.slots i.inverted) refl
@@ -151,14 +153,14 @@ module _ (is js : List Instance) (h : ℕ → ℕ) (distinct : IsDistinct (◌==
         by (Some v) None e a = absurd a
 
     given : (x z : Instance) → Among x is → IsLed h x z
-        → cond (among i.referrer z.types) (holds i.gathering (references z i.inverted (h y))) 0
-        ≡ cond (among i.referrer x.types) (holds i.gathering (references x i.inverted y)) 0
+        → cond (is_listed i.referrer z.types) (holds i.gathering (references z i.inverted (h y))) 0
+        ≡ cond (is_listed i.referrer x.types) (holds i.gathering (references x i.inverted y)) 0
     given x z m l =
-        subst (λ ts. cond (among i.referrer ts) (holds i.gathering (references z i.inverted (h y))) 0
-        ≡ cond (among i.referrer x.types) (holds i.gathering (references x i.inverted y)) 0) l.types
-        (by (among i.referrer x.types) refl)
+        subst (λ ts. cond (is_listed i.referrer ts) (holds i.gathering (references z i.inverted (h y))) 0
+        ≡ cond (is_listed i.referrer x.types) (holds i.gathering (references x i.inverted y)) 0) l.types
+        (by (is_listed i.referrer x.types) refl)
       where
-        by : (b : Bool) → among i.referrer x.types ≡ b
+        by : (b : Bool) → is_listed i.referrer x.types ≡ b
             → cond b (holds i.gathering (references z i.inverted (h y))) 0
             ≡ cond b (holds i.gathering (references x i.inverted y)) 0
         by true e = ap (holds i.gathering) (references_led x z m l e)
@@ -173,13 +175,13 @@ module _ (is js : List Instance) (h : ℕ → ℕ) (distinct : IsDistinct (◌==
     value_is : inverse_value is i y ≡ before
     value_is =
         ap (λ (b : Bool). cond b (flat_map (held i y) is) [])
-        (ap (λ q. among i.entity (types_in q)) here ∙ entity)
+        (ap (λ q. is_listed i.entity (types_in q)) here ∙ entity)
 
     -- who refers is on a side
     side_of : (v : ℕ) → Among v before → IsInverseSide is v i
     side_of v m = (inverse_sides_are_held is i v distinct).1 (y, inr (subst (Among v) (sym value_is) m))
 
-    name_of : (v : ℕ) → Among v before → IsName is v
+    name_of : (v : ℕ) → Among v before → IsInstanceName is v
     name_of v m =
         let from = from-flat (held i y) v is m in
         is_name v is (subst (λ n. Among n (names is)) (own_name i y from.0 v from.2)
@@ -193,13 +195,13 @@ module _ (is js : List Instance) (h : ℕ → ℕ) (distinct : IsDistinct (◌==
         let found = at_name (h k) js z f in
         let l = led k x z e f in
         let left : count (h k) (map h before) ≡ count k before = count_map h (h k) k before pointwise in
-        let mid : count k before ≡ cond (among i.referrer x.types) (holds i.gathering (references x i.inverted y)) 0 =
-        subst (λ n. count n before ≡ cond (among i.referrer x.types) (holds i.gathering (references x i.inverted y)) 0)
+        let mid : count k before ≡ cond (is_listed i.referrer x.types) (holds i.gathering (references x i.inverted y)) 0 =
+        subst (λ n. count n before ≡ cond (is_listed i.referrer x.types) (holds i.gathering (references x i.inverted y)) 0)
         known.1 (count_flat (held i y) (own_name i y) x is distinct known.0 ∙ count_held i y x) in
         let right : count (h k) after
-        ≡ cond (among i.referrer z.types) (holds i.gathering (references z i.inverted (h y))) 0 =
+        ≡ cond (is_listed i.referrer z.types) (holds i.gathering (references z i.inverted (h y))) 0 =
         subst (λ n. count n after
-        ≡ cond (among i.referrer z.types) (holds i.gathering (references z i.inverted (h y))) 0) found.1
+        ≡ cond (is_listed i.referrer z.types) (holds i.gathering (references z i.inverted (h y))) 0) found.1
         (count_flat (held i (h y)) (own_name i (h y)) z js others found.0 ∙ count_held i (h y) z) in
         left ∙ (mid ∙ (sym (given x z known.0 l) ∙ sym right))
       where
@@ -246,8 +248,8 @@ module _ (is js : List Instance) (h : ℕ → ℕ) (distinct : IsDistinct (◌==
             count_absent w (map h before) (left f)
             ∙ sym (count_nowhere (held i (h y)) (own_name i (h y)) w js (nowhere f))
 
-    each_led : (vs : List ℕ) → ((v : ℕ) → Among v vs → IsName is v)
-        → AlikeEach (Leads is h) (instances vs) (instances (map h vs))
+    each_led : (vs : List ℕ) → ((v : ℕ) → Among v vs → IsInstanceName is v)
+        → AlikeEach (LeadsBy is h) (instance_data vs) (instance_data (map h vs))
     each_led [] f = tt
     each_led (v ∷ vs) f = ((f v (inl refl), refl), each_led vs (λ u m. f u (inr m)))
 
@@ -255,41 +257,41 @@ module _ (is js : List Instance) (h : ℕ → ℕ) (distinct : IsDistinct (◌==
     after_is =
         let a = to.led y o here in
         ap (λ (b : Bool). cond b (flat_map (held i (h y)) js) [])
-        (ap (λ q. among i.entity (types_in q)) a.1 ∙ (sym (ap (among i.entity) a.2.types) ∙ entity))
+        (ap (λ q. is_listed i.entity (types_in q)) a.1 ∙ (sym (ap (is_listed i.entity) a.2.types) ∙ entity))
 
-    values_led : AlikeIn (Leads is h) data_of.bag (instances (inverse_value is i y))
-        (instances (inverse_value js i (h y)))
+    values_led : AlikeIn (LeadsBy is h) data_of.bag (instance_data (inverse_value is i y))
+        (instance_data (inverse_value js i (h y)))
     values_led =
-        subst (λ vs. AlikeIn (Leads is h) data_of.bag (instances vs) (instances (inverse_value js i (h y))))
+        subst (λ vs. AlikeIn (LeadsBy is h) data_of.bag (instance_data vs) (instance_data (inverse_value js i (h y))))
         (sym value_is)
-        (subst (λ vs. AlikeIn (Leads is h) data_of.bag (instances before) (instances vs)) (sym after_is)
-        (instances (map h before), each_led before name_of, reordered (map h before) after counted))
+        (subst (λ vs. AlikeIn (LeadsBy is h) data_of.bag (instance_data before) (instance_data vs)) (sym after_is)
+        (instance_data (map h before), each_led before name_of, reordered (map h before) after counted))
 
   -- an instance of another entity has none
-  none_led : (y : ℕ) (o : Instance) → instance_at is y ≡ Some o → among i.entity o.types ≡ false
-      → AlikeIn (Leads is h) data_of.bag (instances (inverse_value is i y)) (instances (inverse_value js i (h y)))
+  none_led : (y : ℕ) (o : Instance) → instance_at is y ≡ Some o → is_listed i.entity o.types ≡ false
+      → AlikeIn (LeadsBy is h) data_of.bag (instance_data (inverse_value is i y)) (instance_data (inverse_value js i (h y)))
   none_led y o here other =
-      subst (λ vs. AlikeIn (Leads is h) data_of.bag (instances vs) (instances (inverse_value js i (h y)))) (sym first)
-      (subst (λ vs. AlikeIn (Leads is h) data_of.bag (instances []) (instances vs)) (sym second)
+      subst (λ vs. AlikeIn (LeadsBy is h) data_of.bag (instance_data vs) (instance_data (inverse_value js i (h y)))) (sym first)
+      (subst (λ vs. AlikeIn (LeadsBy is h) data_of.bag (instance_data []) (instance_data vs)) (sym second)
       (data_of.none, tt, unchanged data_of.none))
     where
       first : inverse_value is i y ≡ []
       first =
           ap (λ (b : Bool). cond b (flat_map (held i y) is) [])
-          (ap (λ q. among i.entity (types_in q)) here ∙ other)
+          (ap (λ q. is_listed i.entity (types_in q)) here ∙ other)
 
       second : inverse_value js i (h y) ≡ []
       second =
           let a = to.led y o here in
           ap (λ (b : Bool). cond b (flat_map (held i (h y)) js) [])
-          (ap (λ q. among i.entity (types_in q)) a.1 ∙ (sym (ap (among i.entity) a.2.types) ∙ other))
+          (ap (λ q. is_listed i.entity (types_in q)) a.1 ∙ (sym (ap (is_listed i.entity) a.2.types) ∙ other))
 
-  all_led : (y : ℕ) → IsName is y
-      → AlikeIn (Leads is h) data_of.bag (instances (inverse_value is i y)) (instances (inverse_value js i (h y)))
-  all_led y (o, here) = by (among i.entity o.types) refl
+  all_led : (y : ℕ) → IsInstanceName is y
+      → AlikeIn (LeadsBy is h) data_of.bag (instance_data (inverse_value is i y)) (instance_data (inverse_value js i (h y)))
+  all_led y (o, here) = by (is_listed i.entity o.types) refl
     where
-      by : (b : Bool) → among i.entity o.types ≡ b
-          → AlikeIn (Leads is h) data_of.bag (instances (inverse_value is i y)) (instances (inverse_value js i (h y)))
+      by : (b : Bool) → is_listed i.entity o.types ≡ b
+          → AlikeIn (LeadsBy is h) data_of.bag (instance_data (inverse_value is i y)) (instance_data (inverse_value js i (h y)))
       by true e = values_led y o here e
       by false e = none_led y o here e
 

@@ -7,23 +7,23 @@ use Rattle.step_literals.specs.Bits.{bits_of}
 use Rattle.step_literals.specs.Decimals.{units}
 use Rattle.step_literals.specs.Items.{string_items}
 use Rattle.step_literals.specs.Words.{upper}
-use Rattle.step_lexis.specs.declared.token.Mark.TheVariants.{Dollar, Asterisk}
+use Rattle.step_lexer.specs.declared.token.Mark.TheVariants.{Dollar, Asterisk}
 use Rattle.step_structures.specs.Words as words
 use Rattle.step_structures.specs.Words.{Word}
 use Rattle.step_structures.specs.Trees as trees
 use Rattle.step_structures.specs.Trees.{Tree, Trees}
 use Rattle.step_values.specs.Leaves as leaves
 use Rattle.step_values.specs.Values.{Value, leaf, typed, sequence, bag, Values, none, more, Agree}
-use Rattle.step_values.specs.ComputedAgreement.{size, same_test}
+use Rattle.step_values.specs.AgreementTests.{value_count, same_test}
 use Rattle.step_values.proofs.Deciding.{test_sound}
 use Rattle.express_syntax.specs.Schemas.{Schema}
 use Rattle.schema_semantics.specs.Names.{Name}
 use Rattle.conformance.specs.declared.finding.FindingKind.{FindingKind}
 use Rattle.conformance.specs.declared.finding.FindingKind.TheVariants.{WrongKind, OutOfBounds, NotDistinct, UnknownElement, WrongEntity, NoSelectItem}
 use Rattle.conformance.specs.Bases.{Aggregate, Base, integer, number, boolean, logical, string, binary, enumeration, entity, select, aggregate, Domain, base}
-use Rattle.conformance.specs.Fitting.{Target, of_types, or_else, needs, in_bounds, has_no_order, is_set, set_ones, differs_from, all_differ, are_distinct, count, is_dollar, is_truth, is_integer, among, misfit_target, misfit_reference, misfit_number, misfit_string, misfit_binary, misfit_element, misfit_word, misfit_inner, misfit_group, misfit, misfit_each, other_kind, inner, or_this, gathered, element, value_as, values_as, word_value}
+use Rattle.conformance.specs.ParameterFits.{Target, of_types, first_finding, needs, in_bounds, has_no_order, is_set, set_ones, differs_from, all_differ, are_distinct, count, is_dollar, is_truth, is_integer, is_listed, misfit_target, misfit_reference, misfit_number, misfit_string, misfit_binary, misfit_element, misfit_word, misfit_inner, misfit_group, misfit, misfit_each, other_kind, inner, base_or_this, gathered, element, value_as, values_as, word_value}
 use Rattle.conformance.specs.Fits.{LeafFits, Takes, DiffersFrom, AllDiffer, IsLeftOut, Gathers, Typing, Fits, FitEach}
-use Rattle.conformance.specs.Spelt.{WordSpelt, IsSpelt, EachSpelt}
+use Rattle.conformance.specs.ValueSpellings.{WordSpelt, IsSpelt, EachSpelt}
 use Rattle.conformance.proofs.Linking.{sizes}
 
 met : (b : Bool) (f : FindingKind) → b ≡ true → needs b f ≡ None
@@ -46,7 +46,7 @@ binary_back b t f = absurd f
 element_back : (b : Base) (n : Name) → LeafFits b (leaves.element n) → misfit_element b n ≡ None
 element_back boolean n f = met (is_truth false n) UnknownElement f
 element_back logical n f = met (is_truth true n) UnknownElement f
-element_back (enumeration items) n f = met (among n items) UnknownElement f
+element_back (enumeration items) n f = met (is_listed n items) UnknownElement f
 element_back b n f = absurd f
 
 unset_none : (b : Base) → LeafFits b leaves.unset → ⊥
@@ -84,8 +84,8 @@ distinct_back (more v vs) d = go (is_set v) refl (distinct_back vs d.1)
     go true e rest = and_from (differs_from v (set_ones vs)) (all_differ (set_ones vs)) (differs_back v vs e d.0) rest
     go false e rest = rest
 
-pub both_none : (a b : Option FindingKind) → a ≡ None → b ≡ None → or_else a b ≡ None
-both_none a b e f = ap (λ x. or_else x b) e ∙ f
+pub both_none : (a b : Option FindingKind) → a ≡ None → b ≡ None → first_finding a b ≡ None
+both_none a b e f = ap (λ x. first_finding x b) e ∙ f
 
 pub same_aggregate : (a c : Aggregate) → aggregate a ≡ aggregate c → a ≡ c
 same_aggregate a c e = cc
@@ -135,11 +135,11 @@ module _ (s : Schema) (d : Domain) (target : ℕ → Target) (typing : Typing)
 
   typed_back : (b : Base) (word : Name) (x : Tree)
       → ((c : Base) → inner s d b word ≡ Some c → Fits s d typing c (value_as s d c x) → misfit s d target c x ≡ None)
-      → Fits s d typing b (typed word (value_as s d (or_this s d b (inner s d b word)) x))
+      → Fits s d typing b (typed word (value_as s d (base_or_this s d b (inner s d b word)) x))
       → misfit_inner s d target (other_kind b) (inner s d b word) (λ c. misfit s d target c x) ≡ None
   typed_back b word x g f =
       let value : Fits s d typing f.0 (value_as s d f.0 x) =
-      subst (λ o. Fits s d typing f.0 (value_as s d (or_this s d b o) x)) f.1 f.2 in
+      subst (λ o. Fits s d typing f.0 (value_as s d (base_or_this s d b o) x)) f.1 f.2 in
       ap (λ o. misfit_inner s d target (other_kind b) o (λ c. misfit s d target c x)) f.1 ∙ g f.0 f.1 value
 
   one_back : (optional : Bool) (b : Base) (x : Tree) → IsSpelt s d b x
@@ -169,13 +169,13 @@ module _ (s : Schema) (d : Domain) (target : ℕ → Target) (typing : Typing)
 
       parts : (no_order : Bool)
           → Gathers no_order (aggregate a) vs (λ c. FitEach s d typing c.optional (base d c.element) vs)
-          → or_else (needs (in_bounds a (count xs)) OutOfBounds)
-          (or_else (misfit_each s d target a.optional (base d a.element) xs)
+          → first_finding (needs (in_bounds a (count xs)) OutOfBounds)
+          (first_finding (misfit_each s d target a.optional (base d a.element) xs)
           (needs (not a.unique || are_distinct vs) NotDistinct)) ≡ None
       parts no_order f =
           let same : a ≡ f.of = same_aggregate a f.of f.is_of in
           let bounds : in_bounds a (count xs) ≡ true =
-          ap (in_bounds a) (sizes s d (base d a.element) xs) ∙ ap (λ c. in_bounds c (size vs)) same ∙ f.bounds in
+          ap (in_bounds a) (sizes s d (base d a.element) xs) ∙ ap (λ c. in_bounds c (value_count vs)) same ∙ f.bounds in
           let all : FitEach s d typing a.optional (base d a.element) vs =
           subst (λ c. FitEach s d typing c.optional (base d c.element) vs) (sym same) f.each in
           let differ : a.unique ≡ true → AllDiffer vs = λ u. f.unique (sym (ap (λ c. c.unique) same) ∙ u) in
@@ -187,8 +187,8 @@ module _ (s : Schema) (d : Domain) (target : ℕ → Target) (typing : Typing)
           unique_or false h = refl
 
       go : (no_order : Bool) → Fits s d typing (aggregate a) (cond no_order (bag vs) (sequence vs))
-          → or_else (needs (in_bounds a (count xs)) OutOfBounds)
-          (or_else (misfit_each s d target a.optional (base d a.element) xs)
+          → first_finding (needs (in_bounds a (count xs)) OutOfBounds)
+          (first_finding (misfit_each s d target a.optional (base d a.element) xs)
           (needs (not a.unique || are_distinct vs) NotDistinct)) ≡ None
       go true f = parts true f
       go false f = parts false f

@@ -3,11 +3,11 @@ use Rattle.std.specs.Prelude.{◌≡◌, ⊤, ℕ, suc, ◌==◌, not, Bool, tru
 use Rattle.std.specs.List.{filter}
 use Rattle.std.proofs.Common.{refl, sym, ◌∙◌, ap, subst, inl, inr}
 use Rattle.step_literals.specs.Words.{upper}
-use Rattle.step_lexis.specs.declared.token.Mark.TheVariants.{Dollar, Asterisk}
+use Rattle.step_lexer.specs.declared.token.Mark.TheVariants.{Dollar, Asterisk}
 use Rattle.step_structures.specs.Words as words
 use Rattle.step_structures.specs.Words.{Word}
 use Rattle.step_structures.specs.Trees as trees
-use Rattle.step_structures.specs.Trees.{Tree, Trees, Record, Form, internal, external, Row}
+use Rattle.step_structures.specs.Trees.{Tree, Trees, Record, Form, internal, external, ExchangeRow}
 use Rattle.step_values.specs.Leaves as leaves
 use Rattle.step_values.specs.Values.{leaf, typed, sequence, bag, Values, more, Agree}
 use Rattle.step_values.specs.References.{renamed, renamed_each}
@@ -17,13 +17,13 @@ use Rattle.express_syntax.specs.Profile.{Every}
 use Rattle.schema_semantics.specs.Names.{Name, Among}
 use Rattle.schema_semantics.specs.Attributes.{Place}
 use Rattle.conformance.specs.Bases.{Base, aggregate, Domain, base}
-use Rattle.conformance.specs.Fitting.{has_no_order, count, is_entity, entity_names, among, is_star_or_dollar, word_value, inner, or_this, gathered, element, value_as, values_as}
-use Rattle.conformance.specs.Entities.{Entities, named_entity, records, parameters, joined, own_places_of, types_of, places_of, how_many, has_count, wrong_counts, is_derived, data_types}
+use Rattle.conformance.specs.ParameterFits.{has_no_order, count, is_entity, entity_names, is_listed, is_star_or_dollar, word_value, inner, base_or_this, gathered, element, value_as, values_as}
+use Rattle.conformance.specs.Entities.{Entities, named_entity, records, parameters, joined_trees, own_places_of, types_of, places_of, how_many, has_count, wrong_counts, is_derived, data_types}
 use Rattle.conformance.specs.Populations.{Slot, first_base, value_at, slots_of, instance_of}
-use Rattle.conformance.specs.Spelt.{WordSpelt, IsSpelt, EachSpelt}
-use Rattle.conformance.specs.SpeltRecords.{GivenSpelt, AreSpelt, IsRowSpelt}
+use Rattle.conformance.specs.ValueSpellings.{WordSpelt, IsSpelt, EachSpelt}
+use Rattle.conformance.specs.RecordSpellings.{GivenSpelt, AreSpelt, IsRowSpelt}
 use Rattle.conformance.specs.Images.{IsLed}
-use Rattle.conformance.specs.Rewritten.{WordLed, TreeLed, TreesLed, RecordLed, RecordsLed, FormLed}
+use Rattle.conformance.specs.RewrittenFiles.{WordLed, TreeLed, TreesLed, RecordLed, RecordsLed, FormLed}
 
 -- the same places, with values that agree with the old ones, each reference led through h
 abbrev AreLed : (ℕ → ℕ) → List Slot → List Slot → Type 0
@@ -88,7 +88,7 @@ module _ (h : ℕ → ℕ) where
   count_led (trees.one x xs) (trees.one y ys) e = ap suc (count_led xs ys e.1)
   count_led xs ys e = absurd e
 
-  joined_led : (xs ys us vs : Trees) → TreesLed h xs ys → TreesLed h us vs → TreesLed h (joined xs us) (joined ys vs)
+  joined_led : (xs ys us vs : Trees) → TreesLed h xs ys → TreesLed h us vs → TreesLed h (joined_trees xs us) (joined_trees ys vs)
   joined_led trees.none trees.none us vs e f = f
   joined_led (trees.one x xs) (trees.one y ys) us vs e f = (e.0, joined_led xs ys us vs e.1 f)
   joined_led xs ys us vs e f = absurd e
@@ -111,8 +111,8 @@ module _ (h : ℕ → ℕ) where
       pub value_led : (b : Base) (x y : Tree) → TreeLed h x y → value_as s d b y ≡ renamed h (value_as s d b x)
       value_led b (trees.leaf w) (trees.leaf v) e = word_led w v e
       value_led b (trees.typed n x) (trees.typed m y) e =
-          ap (λ k. typed k (value_as s d (or_this s d b (inner s d b k)) y)) (sym e.0)
-          ∙ ap (typed (upper n)) (value_led (or_this s d b (inner s d b (upper n))) x y e.1)
+          ap (λ k. typed k (value_as s d (base_or_this s d b (inner s d b k)) y)) (sym e.0)
+          ∙ ap (typed (upper n)) (value_led (base_or_this s d b (inner s d b (upper n))) x y e.1)
       value_led b (trees.group xs) (trees.group ys) e =
           ap (gathered b) (values_led (element s d b) xs ys e) ∙ gathered_led b (values_as s d (element s d b) xs)
       value_led b x y e = absurd e
@@ -180,7 +180,7 @@ module _ (h : ℕ → ℕ) where
     types_led : (f g : Form) → FormLed h f g → types_of s en f ≡ types_of s en g
     types_led (internal p) (internal q) e = ap (λ n. filter (en.is_kind_of n) (entity_names s)) e.0
     types_led (external ps) (external qs) e =
-        ap (λ ns. filter (λ n. among n ns) (entity_names s)) (names_led ps qs e)
+        ap (λ ns. filter (λ n. is_listed n ns) (entity_names s)) (names_led ps qs e)
     types_led f g e = absurd e
 
     own_places_led : (ps qs : List Record) → RecordsLed h ps qs
@@ -231,7 +231,7 @@ module _ (h : ℕ → ℕ) where
         (ap (own_places_of s) r.0))) ps qs e
     counts_led f g e = absurd e
 
-    module _ (d : Domain) (r q : Row) (e : FormLed h r.form q.form) where
+    module _ (d : Domain) (r q : ExchangeRow) (e : FormLed h r.form q.form) where
       same_types : types_of s en r.form ≡ types_of s en q.form
       same_types = types_led r.form q.form e
 

@@ -2,7 +2,7 @@
 use Rattle.std.specs.Prelude.{◌≡◌, List, [], ◌∷◌, flat_map}
 use Rattle.std.proofs.Common.{refl, sym, ap, ◌∙◌}
 use Rattle.express_syntax.specs.Schemas.{Schema}
-use Rattle.step_equal.specs.Rows.{Row}
+use Rattle.value_equality.specs.Rows.{Row}
 use Rattle.conformance.specs.Entities.{own_places_of}
 use Rattle.conformance.specs.Populations.{Instance}
 use Rattle.conformance.specs.PlainRows.{values_at, IsRowOf, AreRowsOf, RowsAreOne}

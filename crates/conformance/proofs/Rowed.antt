@@ -5,9 +5,9 @@ use Rattle.std.proofs.Common.{refl, ap, sym, subst, ◌∙◌, inl, inr, eqb-tru
 use Rattle.step_values.specs.Values.{Value}
 use Rattle.step_values.specs.References.{EachReference, EachReferenceOf, EachBagReference, EachBagReferenceOf}
 use Rattle.step_values.proofs.References.{each_weaker}
-use Rattle.step_equal.specs.Rows as rows
-use Rattle.step_equal.specs.Rows.{Row, row_at, IsName, IsPopulation}
-use Rattle.step_equal.proofs.Lookup.{row_cases, row_here, row_later}
+use Rattle.value_equality.specs.Rows as rows
+use Rattle.value_equality.specs.Rows.{Row, row_at, IsName, IsPopulation}
+use Rattle.value_equality.proofs.Lookup.{row_cases, row_here, row_later}
 use Rattle.express_syntax.specs.Schemas.{Schema}
 use Rattle.express_syntax.specs.Profile.{Every}
 use Rattle.schema_semantics.specs.Names.{Among}
@@ -31,7 +31,7 @@ references_of R xs f (p ∷ ps) = (by (slot_at xs p) refl, references_of R xs f 
     by None e = tt
     by (Some v) e = let x = at_place p xs v e in subst (EachReference R) x.3 (f x.0 x.1)
 
--- .. and what holds of those in bags of those
+-- What holds of the references in bags of each value holds of those of a row.
 bags_at : (R : ℕ → Type 0) (xs : List Slot) → ((x : Slot) → Among x xs → EachBagReference R x.value)
     → (ps : List Place) → EachBagReferenceOf R (values_at xs ps)
 bags_at R xs f [] = tt

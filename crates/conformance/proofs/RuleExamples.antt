@@ -10,8 +10,8 @@ use Rattle.schema_semantics.specs.Names.{Name}
 use Rattle.schema_semantics.proofs.Geo.{geo, LOCATION, LOOP, GROUP, NOTE, NODE, BUNDLE, POINT, PLACEMENT, DIRECTION}
 use Rattle.conformance.specs.Entities.{Entities}
 use Rattle.conformance.specs.Populations.{Instance}
-use Rattle.conformance.specs.Rules.{alone, in_set, in_bag, InverseAttribute, Rules, Statement, statements_from}
-use Rattle.conformance.specs.Referring.{inverse_value, inverse_of}
+use Rattle.conformance.specs.Rules.{alone, in_set, in_bag, InverseAttribute, Rules, UniquenessStatement, statements_from}
+use Rattle.conformance.specs.Referrers.{inverse_value, inverse_of}
 use Rattle.conformance.specs.RuleFindings.{Breach, unique_findings, inverse_findings}
 use Rattle.conformance.specs.Choices.{usual, given, chosen_names, unknown_choice}
 use Rattle.conformance.specs.RuleLaws.{names}
@@ -146,7 +146,7 @@ unlabelled = record { label = None; attributes = own (codes "ID") ∷ [] }
 abbrev written : List Unique
 written = unlabelled ∷ record unlabelled { label = Some (codes "UR1") } ∷ unlabelled ∷ []
 
-abbrev labelled : Name → Statement
+abbrev labelled : Name → UniquenessStatement
 labelled n = record { entity = GROUP; label = n; attributes = own (codes "ID") ∷ [] }
 
 -- `?1`, UR1 and `?3`

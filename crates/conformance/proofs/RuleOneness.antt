@@ -4,7 +4,7 @@ use Rattle.std.specs.List.{list_any, list_all}
 use Rattle.std.proofs.Common.{refl, sym, ◌∙◌, ap, subst, inl, inr}
 use Rattle.std.proofs.lemmas.Bool.{and_from, and_parts, and_right}
 use Rattle.step_values.specs.Values.{Value, Values}
-use Rattle.step_values.specs.ComputedAgreement.{same_test}
+use Rattle.step_values.specs.AgreementTests.{same_test}
 use Rattle.express_syntax.specs.Schemas.{Schema, Entity, own, Inverse}
 use Rattle.schema_semantics.specs.Names.{Name, OneOf, Among, listed, entities}
 use Rattle.schema_semantics.specs.Faults.{IsResolved}
@@ -12,10 +12,10 @@ use Rattle.schema_semantics.specs.Attributes.{Place}
 use Rattle.schema_semantics.proofs.Lists.{from-map, from-flat}
 use Rattle.schema_semantics.proofs.Nearest.{inverted-are-one}
 use Rattle.conformance.specs.Bases.{Domain}
-use Rattle.conformance.specs.Fitting.{among}
+use Rattle.conformance.specs.ParameterFits.{is_listed}
 use Rattle.conformance.specs.Populations.{Slot, Instance, slot_at, types_at}
-use Rattle.conformance.specs.Rules.{UniqueRule, Gathering, InverseAttribute, Statement, statements, IsUniqueRule, is_own, declared_inverses, IsInverseAttribute, InTurn}
-use Rattle.conformance.specs.Referring.{inverse_of}
+use Rattle.conformance.specs.Rules.{UniqueRule, Gathering, InverseAttribute, UniquenessStatement, statements, IsUniqueRule, is_own, declared_inverses, IsInverseAttribute, InTurn}
+use Rattle.conformance.specs.Referrers.{inverse_of}
 use Rattle.conformance.specs.RuleFindings.{given, with_part, parts, key, same_keys, repeats, breaches_of_unique, inverse_findings}
 use Rattle.conformance.specs.Pins.{OccursAt, IsInKey, IsInverseSide}
 use Rattle.conformance.specs.RuleLaws.{RulesAreOne}
@@ -67,7 +67,7 @@ same_all f ps qs h =
     (λ t. at_all f ps (λ p m. all_at f qs t p ((h p).0 m)))
 
 -- two rules that are written so
-module _ (s : Schema) (x : Statement) (u v : UniqueRule) (h : IsUniqueRule s x u) (k : IsUniqueRule s x v) where
+module _ (s : Schema) (x : UniquenessStatement) (u v : UniqueRule) (h : IsUniqueRule s x u) (k : IsUniqueRule s x v) where
   one_entity : u.entity ≡ v.entity
   one_entity = h.entity ∙ sym k.entity
 
@@ -82,8 +82,8 @@ module _ (s : Schema) (x : Statement) (u v : UniqueRule) (h : IsUniqueRule s x u
 
   same_key : (i j : Instance) → same_keys (key u i) (key u j) ≡ same_keys (key v i) (key v j)
   same_key i j =
-      by (among u.entity i.types) (among v.entity i.types) (among u.entity j.types) (among v.entity j.types)
-      (ap (λ n. among n i.types) one_entity) (ap (λ n. among n j.types) one_entity)
+      by (is_listed u.entity i.types) (is_listed v.entity i.types) (is_listed u.entity j.types) (is_listed v.entity j.types)
+      (ap (λ n. is_listed n i.types) one_entity) (ap (λ n. is_listed n j.types) one_entity)
     where
       named : same_keys (parts u.places i.slots) (parts u.places j.slots)
           ≡ same_keys (parts v.places i.slots) (parts v.places j.slots)
@@ -122,7 +122,7 @@ module _ (s : Schema) (x : Statement) (u v : UniqueRule) (h : IsUniqueRule s x u
   in_one_key is y h = either (subst Extent one_entity) (some_other inside is) h
     where
       Extent : Name → Type 0
-      Extent n = IsTrue (among n (types_at is y))
+      Extent n = IsTrue (is_listed n (types_at is y))
 
       stands : (i : Instance) → OneOf (λ (p : Place). OccursAt y (slot_at i.slots p)) u.places
           → OneOf (λ (p : Place). OccursAt y (slot_at i.slots p)) v.places
@@ -131,12 +131,12 @@ module _ (s : Schema) (x : Statement) (u v : UniqueRule) (h : IsUniqueRule s x u
           one_is (λ (p : Place). OccursAt y (slot_at i.slots p)) at.0 v.places ((one_places at.0).0 at.1) at.2
 
       inside : (i : Instance)
-          → IsTrue (among u.entity i.types) × OneOf (λ (p : Place). OccursAt y (slot_at i.slots p)) u.places
-          → IsTrue (among v.entity i.types) × OneOf (λ (p : Place). OccursAt y (slot_at i.slots p)) v.places
-      inside i g = (subst (λ n. IsTrue (among n i.types)) one_entity g.0, stands i g.1)
+          → IsTrue (is_listed u.entity i.types) × OneOf (λ (p : Place). OccursAt y (slot_at i.slots p)) u.places
+          → IsTrue (is_listed v.entity i.types) × OneOf (λ (p : Place). OccursAt y (slot_at i.slots p)) v.places
+      inside i g = (subst (λ n. IsTrue (is_listed n i.types)) one_entity g.0, stands i g.1)
 
 module _ (s : Schema) where
-  all_breaches : (is : List Instance) (xs : List Statement) (us vs : List UniqueRule) → InTurn (IsUniqueRule s) xs us
+  all_breaches : (is : List Instance) (xs : List UniquenessStatement) (us vs : List UniqueRule) → InTurn (IsUniqueRule s) xs us
       → InTurn (IsUniqueRule s) xs vs → flat_map (breaches_of_unique is) us ≡ flat_map (breaches_of_unique is) vs
   all_breaches is [] [] [] h k = refl
   all_breaches is [] [] (v ∷ vs) h k = elim k [ ]
@@ -146,7 +146,7 @@ module _ (s : Schema) where
   all_breaches is (x ∷ xs) (u ∷ us) (v ∷ vs) h k =
       rw (one_breaches s x u v h.0 k.0 is, all_breaches is xs us vs h.1 k.1) refl
 
-  in_all_keys : (is : List Instance) (y : ℕ) (xs : List Statement) (us vs : List UniqueRule)
+  in_all_keys : (is : List Instance) (y : ℕ) (xs : List UniquenessStatement) (us vs : List UniqueRule)
       → InTurn (IsUniqueRule s) xs us → InTurn (IsUniqueRule s) xs vs → OneOf (IsInKey is y) us
       → OneOf (IsInKey is y) vs
   in_all_keys is y xs [] vs h k g = elim g [ ]

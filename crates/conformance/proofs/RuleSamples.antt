@@ -38,7 +38,7 @@ geo_entities = record {
   derives = λ n p. false;
 }
 
--- .. in which each attribute has this data type
+-- The entities of the sample, in which each attribute has this data type.
 abbrev pub all_of : DataType → Entities
 all_of k = record geo_entities { declarations = λ n p. having p.1 k ∷ [] }
 

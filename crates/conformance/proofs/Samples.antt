@@ -1,10 +1,10 @@
 -- Trees that are written short, and a schema of SELECTs, redeclarations and bounds, for the examples.
 use Prim.Native.String.{String}
 use Rattle.std.specs.Prelude.{ℕ, true, false, List, [], ◌∷◌, ◌++◌, Some, None, codes, map}
-use Rattle.step_lexis.specs.declared.token.Mark.TheVariants.{Dollar, Asterisk}
+use Rattle.step_lexer.specs.declared.token.Mark.TheVariants.{Dollar, Asterisk}
 use Rattle.step_structures.specs.Words.{name, number, element, string, binary, mark}
 use Rattle.step_structures.specs.Trees as trees
-use Rattle.step_structures.specs.Trees.{Tree, Trees, Record, Row, internal, external, File}
+use Rattle.step_structures.specs.Trees.{Tree, Trees, Record, ExchangeRow, internal, external, File}
 use Rattle.express_syntax.specs.Schemas.{Schema, Entity, DataType, Underlying, Explicit, Declaration, Bounds, Bound}
 use Rattle.express_syntax.specs.Schemas as schemas
 use Rattle.schema_semantics.proofs.Geo.{bare, having, having_optional, real_type}
@@ -43,14 +43,14 @@ typed w x = trees.typed (codes w) x
 abbrev pub part : String → List Tree → Record
 part w xs = record { keyword = codes w; values = trees_of xs }
 
-abbrev pub row : ℕ → String → List Tree → Row
+abbrev pub row : ℕ → String → List Tree → ExchangeRow
 row n w xs = record { name = n; form = internal (part w xs) }
 
-abbrev pub parts : ℕ → List Record → Row
+abbrev pub parts : ℕ → List Record → ExchangeRow
 parts n rs = record { name = n; form = external rs }
 
 -- a file that names this schema
-abbrev pub file_of : String → List Row → File
+abbrev pub file_of : String → List ExchangeRow → File
 file_of schema rows =
     record {
       header = part "FILE_DESCRIPTION" [] ∷ part "FILE_NAME" []

@@ -6,12 +6,13 @@ use Rattle.step_values.specs.Leaves.{Leaf}
 use Rattle.step_values.specs.Values as values
 use Rattle.step_values.specs.Values.{Value, leaf, reference, typed, sequence, bag, Values, none, more, Agree, AgreeEach}
 use Rattle.step_values.specs.References.{renamed, renamed_each, EachReference, EachReferenceOf}
+use Rattle.step_values.proofs.Crowds.{by_names}
 use Rattle.express_syntax.specs.Schemas.{Schema, DataType, named}
 use Rattle.schema_semantics.specs.Names.{Name, Among}
 use Rattle.schema_semantics.specs.Attributes.{Place}
 use Rattle.schema_semantics.proofs.Lists.{among-left, among-right, among-either, among-flat, from-flat, every-at}
 use Rattle.conformance.specs.Bases.{Base, Domain, base}
-use Rattle.conformance.specs.Fitting.{among, element}
+use Rattle.conformance.specs.ParameterFits.{is_listed, element}
 use Rattle.conformance.specs.Entities.{Entities, data_types}
 use Rattle.conformance.specs.Populations.{Slot, Instance, instance_at, slot_at}
 use Rattle.conformance.specs.Images.{IsLed}
@@ -21,8 +22,8 @@ use Rattle.conformance.specs.Values.{datum, first_declared}
 use Rattle.conformance.specs.Attributes.{Attributes}
 use Rattle.conformance.specs.DomainRules.{Holder, of_entity, of_type}
 use Rattle.conformance.specs.DomainFindings.{element_in, is_of, itself, values_of, each_of, in_slot, selves}
-use Rattle.conformance.specs.Alike.{Alike}
-use Rattle.conformance.specs.MeaningImages.{IsName, Leads, HasPlacesOnce, IsLedTo}
+use Rattle.conformance.specs.AlikeValues.{Alike}
+use Rattle.conformance.specs.MeaningImages.{IsInstanceName, LeadsBy, HasPlacesOnce, IsLedTo}
 use Rattle.conformance.proofs.Led.{at_name, at_place, place_at, AgreeAt, slots_led, datum_led, refers}
 
 -- each of either list is alike to one of the other
@@ -120,72 +121,73 @@ module _ (s : Schema) (d : Domain) (en : Entities) (attributes : Attributes) (t 
   reordered_back k b (values.joined r q) x m = reordered_back k b r x (reordered_back k b q x m)
 
   module _ (is : List Instance) (h : ℕ → ℕ) where
-    itself_same : (k : DataType) (b : Base) (v w : Value) → EachReference (IsName is) v
+    itself_same : (k : DataType) (b : Base) (v w : Value) → EachReference (IsInstanceName is) v
         → Agree (◌==◌) (renamed h v) w
-        → SameValues (Leads is h) (itself s d en attributes t k b v) (itself s d en attributes t k b w)
+        → SameValues (LeadsBy is h) (itself s d en attributes t k b v) (itself s d en attributes t k b w)
     itself_same k b v w r e =
-        same_if (Leads is h) (is_of s d en attributes t k) (datum s d b v ∷ []) (datum s d b w ∷ [])
-        (same_one (Leads is h) (datum s d b v) (datum s d b w) (datum_led s d is h b v w r e))
+        same_if (LeadsBy is h) (is_of s d en attributes t k) (datum s d b v ∷ []) (datum s d b w ∷ [])
+        (same_one (LeadsBy is h) (datum s d b v) (datum s d b w) (datum_led s d is h b v w r e))
 
     leaf_values : (k : DataType) (b : Base) (a : Leaf)
-        → SameValues (Leads is h) (values_of s d en attributes t k b (leaf a))
+        → SameValues (LeadsBy is h) (values_of s d en attributes t k b (leaf a))
         (values_of s d en attributes t k b (leaf a))
-    leaf_values k b leaves.unset = same_none (Leads is h)
-    leaf_values k b leaves.derived = same_none (Leads is h)
+    leaf_values k b leaves.unset = same_none (LeadsBy is h)
+    leaf_values k b leaves.derived = same_none (LeadsBy is h)
     leaf_values k b (leaves.number z) = itself_same k b (leaf (leaves.number z)) (leaf (leaves.number z)) tt refl
     leaf_values k b (leaves.text z) = itself_same k b (leaf (leaves.text z)) (leaf (leaves.text z)) tt refl
     leaf_values k b (leaves.bits z) = itself_same k b (leaf (leaves.bits z)) (leaf (leaves.bits z)) tt refl
     leaf_values k b (leaves.element z) = itself_same k b (leaf (leaves.element z)) (leaf (leaves.element z)) tt refl
 
     mutual
-      values_same : (k : DataType) (b : Base) (v w : Value) → EachReference (IsName is) v
+      values_same : (k : DataType) (b : Base) (v w : Value) → EachReference (IsInstanceName is) v
           → Agree (◌==◌) (renamed h v) w
-          → SameValues (Leads is h) (values_of s d en attributes t k b v) (values_of s d en attributes t k b w)
+          → SameValues (LeadsBy is h) (values_of s d en attributes t k b v) (values_of s d en attributes t k b w)
       values_same k b (leaf a) (leaf c) r e =
-          subst (λ c. SameValues (Leads is h) (values_of s d en attributes t k b (leaf a))
+          subst (λ c. SameValues (LeadsBy is h) (values_of s d en attributes t k b (leaf a))
           (values_of s d en attributes t k b (leaf c))) e (leaf_values k b a)
       values_same k b (reference y) (reference z) r e = itself_same k b (reference y) (reference z) r e
       values_same k b (typed n v) (typed m w) r e =
-          subst (λ m. SameValues (Leads is h) (values_of s d en attributes t (named n) (base d (named n)) v)
+          subst (λ m. SameValues (LeadsBy is h) (values_of s d en attributes t (named n) (base d (named n)) v)
           (values_of s d en attributes t (named m) (base d (named m)) w)) e.0
           (values_same (named n) (base d (named n)) v w r e.1)
       values_same k b (sequence vs) (sequence ws) r e =
-          same_both (Leads is h) (itself s d en attributes t k b (sequence vs))
+          same_both (LeadsBy is h) (itself s d en attributes t k b (sequence vs))
           (itself s d en attributes t k b (sequence ws))
           (each_of s d en attributes t (element_in k (base d k)) (element s d b) vs)
           (each_of s d en attributes t (element_in k (base d k)) (element s d b) ws)
           (itself_same k b (sequence vs) (sequence ws) r e)
           (each_same (element_in k (base d k)) (element s d b) vs ws r e)
       values_same k b (bag vs) (bag ws) r e =
-          same_both (Leads is h) (itself s d en attributes t k b (bag vs)) (itself s d en attributes t k b (bag ws))
+          let m = by_names (renamed_each h vs) ws e in
+          same_both (LeadsBy is h) (itself s d en attributes t k b (bag vs)) (itself s d en attributes t k b (bag ws))
           (each_of s d en attributes t (element_in k (base d k)) (element s d b) vs)
           (each_of s d en attributes t (element_in k (base d k)) (element s d b) ws)
           (itself_same k b (bag vs) (bag ws) r e)
-          (same_members (Leads is h) (each_of s d en attributes t (element_in k (base d k)) (element s d b) vs)
-          (each_of s d en attributes t (element_in k (base d k)) (element s d b) e.0)
+          (same_members (LeadsBy is h) (each_of s d en attributes t (element_in k (base d k)) (element s d b) vs)
+          (each_of s d en attributes t (element_in k (base d k)) (element s d b) m.0)
           (each_of s d en attributes t (element_in k (base d k)) (element s d b) ws)
-          (each_same (element_in k (base d k)) (element s d b) vs e.0 r e.2)
-          (reordered (element_in k (base d k)) (element s d b) e.1)
-          (reordered_back (element_in k (base d k)) (element s d b) e.1))
+          (each_same (element_in k (base d k)) (element s d b) vs m.0 r m.2)
+          (reordered (element_in k (base d k)) (element s d b) m.1)
+          (reordered_back (element_in k (base d k)) (element s d b) m.1))
       values_same k b _ _ r e = absurd e
 
-      each_same : (k : DataType) (b : Base) (vs ws : Values) → EachReferenceOf (IsName is) vs
+      each_same : (k : DataType) (b : Base) (vs ws : Values) → EachReferenceOf (IsInstanceName is) vs
           → AgreeEach (◌==◌) (renamed_each h vs) ws
-          → SameValues (Leads is h) (each_of s d en attributes t k b vs) (each_of s d en attributes t k b ws)
-      each_same k b none none r e = same_none (Leads is h)
+          → SameValues (LeadsBy is h) (each_of s d en attributes t k b vs) (each_of s d en attributes t k b ws)
+      each_same k b none none r e = same_none (LeadsBy is h)
       each_same k b (more v vs) (more w ws) r e =
-          same_both (Leads is h) (values_of s d en attributes t k b v) (values_of s d en attributes t k b w)
+          same_both (LeadsBy is h) (values_of s d en attributes t k b v) (values_of s d en attributes t k b w)
           (each_of s d en attributes t k b vs) (each_of s d en attributes t k b ws) (values_same k b v w r.0 e.0)
           (each_same k b vs ws r.1 e.1)
       each_same k b _ _ r e = absurd e
 
-    kinds_same : (b : Base) (v w : Value) → EachReference (IsName is) v → Agree (◌==◌) (renamed h v) w
+    kinds_same : (b : Base) (v w : Value) → EachReference (IsInstanceName is) v → Agree (◌==◌) (renamed h v) w
         → (ks : List DataType)
-        → SameValues (Leads is h) (flat_map (λ (k : DataType). values_of s d en attributes t k b v) ks)
+        → SameValues (LeadsBy is h) (flat_map (λ (k : DataType). values_of s d en attributes t k b v) ks)
         (flat_map (λ (k : DataType). values_of s d en attributes t k b w) ks)
-    kinds_same b v w r e [] = same_none (Leads is h)
+    kinds_same b v w r e [] = same_none (LeadsBy is h)
     kinds_same b v w r e (k ∷ ks) =
-        same_both (Leads is h) (values_of s d en attributes t k b v) (values_of s d en attributes t k b w)
+        same_both (LeadsBy is h) (values_of s d en attributes t k b v) (values_of s d en attributes t k b w)
         (flat_map (λ (k : DataType). values_of s d en attributes t k b v) ks)
         (flat_map (λ (k : DataType). values_of s d en attributes t k b w) ks) (values_same k b v w r e)
         (kinds_same b v w r e ks)
@@ -196,18 +198,18 @@ module _ (s : Schema) (d : Domain) (en : Entities) (attributes : Attributes) (t 
         flat_map (λ (k : DataType). values_of s d en attributes t k (first_declared s d en p) v)
         (data_types s en types p)
 
-    place_same : (types : List Name) (p : Place) (v w : Value) → EachReference (IsName is) v
-        → Agree (◌==◌) (renamed h v) w → SameValues (Leads is h) (in_place types p v) (in_place types p w)
+    place_same : (types : List Name) (p : Place) (v w : Value) → EachReference (IsInstanceName is) v
+        → Agree (◌==◌) (renamed h v) w → SameValues (LeadsBy is h) (in_place types p v) (in_place types p w)
     place_same types p v w r e = kinds_same (first_declared s d en p) v w r e (data_types s en types p)
 
     module _ (js : List Instance) (to : IsLedTo is js h) (x z : Instance) (m : Among x is) (l : IsLed h x z) where
-      slot_refers : (y : Slot) → Among y x.slots → EachReference (IsName is) y.value
+      slot_refers : (y : Slot) → Among y x.slots → EachReference (IsInstanceName is) y.value
       slot_refers y n =
           refers is to.closed x m y.place y.value
           (place_at y x.slots (every-at HasPlacesOnce x is to.once m) n)
 
       forth_in : (y : Slot) → Among y x.slots → (e : Datum) → Among e (in_place x.types y.place y.value)
-          → (f : Datum) × Among f (flat_map (in_slot s d en attributes t x.types) z.slots) × Alike (Leads is h) e f
+          → (f : Datum) × Among f (flat_map (in_slot s d en attributes t x.types) z.slots) × Alike (LeadsBy is h) e f
       forth_in y n e k =
           by (slot_at x.slots y.place) (slot_at z.slots y.place) (place_at y x.slots once n) refl
           (slots_led h x z once l y.place)
@@ -220,7 +222,7 @@ module _ (s : Schema) (d : Domain) (en : Entities) (attributes : Attributes) (t 
 
           at : (w : Value) → slot_at z.slots y.place ≡ Some w → Agree (◌==◌) (renamed h y.value) w
               → (f : Datum) × Among f (flat_map (in_slot s d en attributes t x.types) z.slots)
-              × Alike (Leads is h) e f
+              × Alike (LeadsBy is h) e f
           at w q a =
               let there = at_place y.place z.slots w q in
               let found = (place_same x.types y.place y.value w (slot_refers y n) a).forth e k in (
@@ -233,7 +235,7 @@ module _ (s : Schema) (d : Domain) (en : Entities) (attributes : Attributes) (t 
 
           by : (o q : Option Value) → o ≡ Some y.value → slot_at z.slots y.place ≡ q → AgreeAt h o q
               → (f : Datum) × Among f (flat_map (in_slot s d en attributes t x.types) z.slots)
-              × Alike (Leads is h) e f
+              × Alike (LeadsBy is h) e f
           by (Some v) (Some w) g q a =
               at w q (subst (λ u. Agree (◌==◌) (renamed h u) w) (some v y.value g) a)
           by None None g q a = absurd (cc)
@@ -241,7 +243,7 @@ module _ (s : Schema) (d : Domain) (en : Entities) (attributes : Attributes) (t 
           by None (Some w) g q a = absurd a
 
       back_in : (y : Slot) → Among y z.slots → (f : Datum) → Among f (in_place x.types y.place y.value)
-          → (e : Datum) × Among e (flat_map (in_slot s d en attributes t x.types) x.slots) × Alike (Leads is h) e f
+          → (e : Datum) × Among e (flat_map (in_slot s d en attributes t x.types) x.slots) × Alike (LeadsBy is h) e f
       back_in y n f k =
           let here = l.values y n in
           let found = (place_same x.types y.place here.0.value y.value (slot_refers here.0 here.1) here.3).back f k in (
@@ -251,19 +253,19 @@ module _ (s : Schema) (d : Domain) (en : Entities) (attributes : Attributes) (t 
             found.2,
           )
 
-      slots_same : SameValues (Leads is h) (flat_map (in_slot s d en attributes t x.types) x.slots)
+      slots_same : SameValues (LeadsBy is h) (flat_map (in_slot s d en attributes t x.types) x.slots)
           (flat_map (in_slot s d en attributes t x.types) z.slots)
       slots_same = record { forth = to_other; back = from_other }
         where
           to_other : (e : Datum) → Among e (flat_map (in_slot s d en attributes t x.types) x.slots)
               → (f : Datum) × Among f (flat_map (in_slot s d en attributes t x.types) z.slots)
-              × Alike (Leads is h) e f
+              × Alike (LeadsBy is h) e f
           to_other e n =
               let at = from-flat (in_slot s d en attributes t x.types) e x.slots n in forth_in at.0 at.1 e at.2
 
           from_other : (f : Datum) → Among f (flat_map (in_slot s d en attributes t x.types) z.slots)
               → (e : Datum) × Among e (flat_map (in_slot s d en attributes t x.types) x.slots)
-              × Alike (Leads is h) e f
+              × Alike (LeadsBy is h) e f
           from_other f n =
               let at = from-flat (in_slot s d en attributes t x.types) f z.slots n in back_in at.0 at.1 f at.2
 
@@ -271,20 +273,20 @@ module _ (s : Schema) (d : Domain) (en : Entities) (attributes : Attributes) (t 
 module _ (s : Schema) (d : Domain) (en : Entities) (attributes : Attributes) (is js : List Instance) (h : ℕ → ℕ)
     (to : IsLedTo is js h) (y : ℕ) (x z : Instance) (at : instance_at is y ≡ Some x)
     (there : instance_at js (h y) ≡ Some z) (l : IsLed h x z) where
-  led_name : Leads is h x.name z.name
+  led_name : LeadsBy is h x.name z.name
   led_name =
       let here = at_name y is x at in
       let other = at_name (h y) js z there in
       ((x, subst (λ u. instance_at is u ≡ Some x) (sym here.1) at), ap h here.1 ∙ sym other.1)
 
   pub selves_same : (holder : Holder)
-      → SameValues (Leads is h) (selves s d en attributes x holder) (selves s d en attributes z holder)
+      → SameValues (LeadsBy is h) (selves s d en attributes x holder) (selves s d en attributes z holder)
   selves_same (of_entity e) =
-      subst (λ ts. SameValues (Leads is h) (cond (among e x.types) (data_of.instance x.name ∷ []) [])
-      (cond (among e ts) (data_of.instance z.name ∷ []) [])) l.types
-      (same_if (Leads is h) (among e x.types) (data_of.instance x.name ∷ []) (data_of.instance z.name ∷ [])
-      (same_one (Leads is h) (data_of.instance x.name) (data_of.instance z.name) led_name))
+      subst (λ ts. SameValues (LeadsBy is h) (cond (is_listed e x.types) (data_of.instance x.name ∷ []) [])
+      (cond (is_listed e ts) (data_of.instance z.name ∷ []) [])) l.types
+      (same_if (LeadsBy is h) (is_listed e x.types) (data_of.instance x.name ∷ []) (data_of.instance z.name ∷ [])
+      (same_one (LeadsBy is h) (data_of.instance x.name) (data_of.instance z.name) led_name))
   selves_same (of_type t) =
-      subst (λ ts. SameValues (Leads is h) (flat_map (in_slot s d en attributes t x.types) x.slots)
+      subst (λ ts. SameValues (LeadsBy is h) (flat_map (in_slot s d en attributes t x.types) x.slots)
       (flat_map (in_slot s d en attributes t ts) z.slots)) l.types
       (slots_same s d en attributes t is h js to x z (at_name y is x at).0 l)

@@ -13,23 +13,23 @@ use Rattle.conformance.specs.Entities.{Entities}
 use Rattle.conformance.specs.Populations.{Instance, instance_at}
 use Rattle.conformance.specs.Images.{IsLed}
 use Rattle.conformance.specs.Rules.{Gathering, alone, in_set, in_bag, InverseAttribute}
-use Rattle.conformance.specs.Referring.{inverse_value}
+use Rattle.conformance.specs.Referrers.{inverse_value}
 use Rattle.express_logic.specs.Data as data_of
 use Rattle.express_logic.specs.Data.{Datum}
 use Rattle.conformance.specs.Values.{first_declared}
 use Rattle.conformance.specs.Expressions.{means}
 use Rattle.conformance.specs.Attributes.{Source, explicit, derived, inverse, unclear, Formula, Attributes, IsSource, IsNamed, IsInGroup, AreAttributes}
-use Rattle.conformance.specs.Meanings.{instances, referring, says_type, found, value_from, attribute_in, group_in, type_in, setting, by_rank, below, above, derived_value, meaning}
-use Rattle.conformance.specs.Alike.{Alike, AlikeIn}
-use Rattle.conformance.specs.MeaningImages.{IsName, Leads, IsKept}
+use Rattle.conformance.specs.Meanings.{instance_data, referring, says_type, found, value_from, attribute_in, group_in, type_in, setting, by_rank, below, above, derived_value, meaning}
+use Rattle.conformance.specs.AlikeValues.{Alike, AlikeIn}
+use Rattle.conformance.specs.MeaningImages.{IsInstanceName, LeadsBy, IsKept}
 use Rattle.conformance.specs.MeaningLaws.{ImagesKeepMeanings}
 use Rattle.conformance.proofs.Elements.{only_alike}
 use Rattle.conformance.proofs.ExpressionForms.{AlikeFound, SettingsAlike, means_alike}
 use Rattle.conformance.proofs.Led.{at_name, place_led}
 
 referring_alike : (led : ℕ → ℕ → Type 0) (g : Gathering) (xs ys : List ℕ)
-    → AlikeIn led data_of.bag (instances xs) (instances ys) → Alike led (referring g xs) (referring g ys)
-referring_alike led alone xs ys h = only_alike led (instances xs) (instances ys) h
+    → AlikeIn led data_of.bag (instance_data xs) (instance_data ys) → Alike led (referring g xs) (referring g ys)
+referring_alike led alone xs ys h = only_alike led (instance_data xs) (instance_data ys) h
 referring_alike led (in_set lower upper) xs ys h = (refl, h)
 referring_alike led (in_bag lower upper) xs ys h = (refl, h)
 
@@ -63,79 +63,79 @@ module _ (s : Schema) (d : Domain) (en : Entities) (inverses : List InverseAttri
       (keeps : IsKept inverses is js h) where
     -- where the values of derived attributes are alike
     module _ (f g : ℕ → Derivation → Datum)
-        (alike : (y : ℕ) → IsName is y → (e : Derivation) → Alike (Leads is h) (f y e) (g (h y) e)) where
+        (alike : (y : ℕ) → IsInstanceName is y → (e : Derivation) → Alike (LeadsBy is h) (f y e) (g (h y) e)) where
       value_alike : (y : ℕ) (x z : Instance) → instance_at is y ≡ Some x → x.name ≡ y → z.name ≡ h y → Among x is
           → IsLed h x z → (c : Source) → IsOfSchema c
-          → Alike (Leads is h) (value_from s d en attributes is f x c) (value_from s d en attributes js g z c)
+          → Alike (LeadsBy is h) (value_from s d en attributes is f x c) (value_from s d en attributes js g z c)
       value_alike y x z at n m among l (explicit p) o =
           place_led s d is js h keeps.instances_led x z among l (first_declared s d en p) p
       value_alike y x z at n m among l (derived e) o =
-          subst (λ u. Alike (Leads is h) (f u e) (g z.name e)) (sym n)
-          (subst (λ u. Alike (Leads is h) (f y e) (g u e)) (sym m) (alike y (x, at) e))
+          subst (λ u. Alike (LeadsBy is h) (f u e) (g z.name e)) (sym n)
+          (subst (λ u. Alike (LeadsBy is h) (f y e) (g u e)) (sym m) (alike y (x, at) e))
       value_alike y x z at n m among l (inverse i) o =
-          referring_alike (Leads is h) i.gathering (inverse_value is i x.name) (inverse_value js i z.name)
-          (subst (λ u. AlikeIn (Leads is h) data_of.bag (instances (inverse_value is i u))
-          (instances (inverse_value js i z.name))) (sym n)
-          (subst (λ u. AlikeIn (Leads is h) data_of.bag (instances (inverse_value is i y))
-          (instances (inverse_value js i u))) (sym m) (keeps.referrers_led i o y (x, at))))
+          referring_alike (LeadsBy is h) i.gathering (inverse_value is i x.name) (inverse_value js i z.name)
+          (subst (λ u. AlikeIn (LeadsBy is h) data_of.bag (instance_data (inverse_value is i u))
+          (instance_data (inverse_value js i z.name))) (sym n)
+          (subst (λ u. AlikeIn (LeadsBy is h) data_of.bag (instance_data (inverse_value is i y))
+          (instance_data (inverse_value js i u))) (sym m) (keeps.referrers_led i o y (x, at))))
       value_alike y x z at n m among l unclear o = tt
 
       -- an instance, and the one that it is led to
       at_both : (y : ℕ) (x z : Instance) → instance_at is y ≡ Some x → instance_at js (h y) ≡ Some z → IsLed h x z
           → (c : Source) → IsOfSchema c
-          → Alike (Leads is h) (value_from s d en attributes is f x c) (value_from s d en attributes js g z c)
+          → Alike (LeadsBy is h) (value_from s d en attributes is f x c) (value_from s d en attributes js g z c)
       at_both y x z at there l c o =
           let here = at_name y is x at in
           value_alike y x z at here.1 (at_name (h y) js z there).1 here.0 l c o
 
       found_alike : (y : ℕ) (x z : Instance) → instance_at is y ≡ Some x → instance_at js (h y) ≡ Some z → IsLed h x z
           → (o : Option Source) → ((c : Source) → o ≡ Some c → IsOfSchema c)
-          → AlikeFound (Leads is h) (found o (value_from s d en attributes is f x))
+          → AlikeFound (LeadsBy is h) (found o (value_from s d en attributes is f x))
           (found o (value_from s d en attributes js g z))
       found_alike y x z at there l None k = tt
       found_alike y x z at there l (Some c) k = at_both y x z at there l c (k c refl)
 
       attribute_alike : (y : ℕ) (x z : Instance) → instance_at is y ≡ Some x → instance_at js (h y) ≡ Some z
-          → IsLed h x z → (a : Name) → AlikeFound (Leads is h) (attribute_in s d en attributes is f (Some x) a)
+          → IsLed h x z → (a : Name) → AlikeFound (LeadsBy is h) (attribute_in s d en attributes is f (Some x) a)
           (attribute_in s d en attributes js g (Some z) a)
       attribute_alike y x z at there l a =
-          subst (λ ts. AlikeFound (Leads is h) (found (attributes.source x.types a) (value_from s d en attributes is f
+          subst (λ ts. AlikeFound (LeadsBy is h) (found (attributes.source x.types a) (value_from s d en attributes is f
           x))
           (found (attributes.source ts a) (value_from s d en attributes js g z))) l.types
           (found_alike y x z at there l (attributes.source x.types a)
           (λ c e. named_of_schema x.types a c (subst (IsNamed s inverses x.types a) e (are.sources x.types a))))
 
       group_alike : (y : ℕ) (x z : Instance) → instance_at is y ≡ Some x → instance_at js (h y) ≡ Some z
-          → IsLed h x z → (e a : Name) → Alike (Leads is h) (group_in s d en attributes is f (Some x) e a)
+          → IsLed h x z → (e a : Name) → Alike (LeadsBy is h) (group_in s d en attributes is f (Some x) e a)
           (group_in s d en attributes js g (Some z) e a)
       group_alike y x z at there l e a =
-          subst (λ ts. Alike (Leads is h) (value_from s d en attributes is f x (attributes.source_of x.types e a))
+          subst (λ ts. Alike (LeadsBy is h) (value_from s d en attributes is f x (attributes.source_of x.types e a))
           (value_from s d en attributes js g z (attributes.source_of ts e a))) l.types
           (at_both y x z at there l (attributes.source_of x.types e a)
           (group_of_schema x.types e a (attributes.source_of x.types e a) (are.groups x.types e a)))
 
-      -- .. by their names
-      attribute_led : (y : ℕ) → IsName is y → (a : Name)
-          → AlikeFound (Leads is h) (attribute_in s d en attributes is f (instance_at is y) a)
+      -- The attribute with a name, of an instance and of its image.
+      attribute_led : (y : ℕ) → IsInstanceName is y → (a : Name)
+          → AlikeFound (LeadsBy is h) (attribute_in s d en attributes is f (instance_at is y) a)
           (attribute_in s d en attributes js g (instance_at js (h y)) a)
       attribute_led y (x, at) a =
           let to = keeps.instances_led.led y x at in
-          subst (λ o. AlikeFound (Leads is h) (attribute_in s d en attributes is f o a)
+          subst (λ o. AlikeFound (LeadsBy is h) (attribute_in s d en attributes is f o a)
           (attribute_in s d en attributes js g (instance_at js (h y)) a)) (sym at)
-          (subst (λ o. AlikeFound (Leads is h) (attribute_in s d en attributes is f (Some x) a)
+          (subst (λ o. AlikeFound (LeadsBy is h) (attribute_in s d en attributes is f (Some x) a)
           (attribute_in s d en attributes js g o a)) (sym to.1) (attribute_alike y x to.0 at to.1 to.2 a))
 
-      group_led : (y : ℕ) → IsName is y → (e a : Name)
-          → Alike (Leads is h) (group_in s d en attributes is f (instance_at is y) e a)
+      group_led : (y : ℕ) → IsInstanceName is y → (e a : Name)
+          → Alike (LeadsBy is h) (group_in s d en attributes is f (instance_at is y) e a)
           (group_in s d en attributes js g (instance_at js (h y)) e a)
       group_led y (x, at) e a =
           let to = keeps.instances_led.led y x at in
-          subst (λ o. Alike (Leads is h) (group_in s d en attributes is f o e a)
+          subst (λ o. Alike (LeadsBy is h) (group_in s d en attributes is f o e a)
           (group_in s d en attributes js g (instance_at js (h y)) e a)) (sym at)
-          (subst (λ o. Alike (Leads is h) (group_in s d en attributes is f (Some x) e a)
+          (subst (λ o. Alike (LeadsBy is h) (group_in s d en attributes is f (Some x) e a)
           (group_in s d en attributes js g o e a)) (sym to.1) (group_alike y x to.0 at to.1 to.2 e a))
 
-      type_led : (y : ℕ) → IsName is y → (text : List Item)
+      type_led : (y : ℕ) → IsInstanceName is y → (text : List Item)
           → type_in s (instance_at is y) text ≡ type_in s (instance_at js (h y)) text
       type_led y (x, at) text =
           let to = keeps.instances_led.led y x at in
@@ -143,12 +143,12 @@ module _ (s : Schema) (d : Domain) (en : Entities) (inverses : List InverseAttri
           ∙ (ap (λ ts. list_any (says_type s text) ts) to.2.types
           ∙ sym (ap (λ o. type_in s o text) to.1))
 
-      settings_alike : SettingsAlike (Leads is h) (setting s d en attributes is f) (setting s d en attributes js g)
+      settings_alike : SettingsAlike (LeadsBy is h) (setting s d en attributes is f) (setting s d en attributes js g)
       settings_alike = record {
-        attribute = λ y z l a. subst (λ u. AlikeFound (Leads is h)
+        attribute = λ y z l a. subst (λ u. AlikeFound (LeadsBy is h)
             (attribute_in s d en attributes is f (instance_at is y) a)
             (attribute_in s d en attributes js g (instance_at js u) a)) l.1 (attribute_led y l.0 a);
-        attribute_of = λ y z l e a. subst (λ u. Alike (Leads is h)
+        attribute_of = λ y z l e a. subst (λ u. Alike (LeadsBy is h)
             (group_in s d en attributes is f (instance_at is y) e a)
             (group_in s d en attributes js g (instance_at js u) e a)) l.1 (group_led y l.0 e a);
         has_type = λ y z l text. subst (λ u. type_in s (instance_at is y) text
@@ -159,34 +159,34 @@ module _ (s : Schema) (d : Domain) (en : Entities) (inverses : List InverseAttri
       }
 
     rank_alike : (n : ℕ) (o : Option Formula) (p q : Tree → Datum) (d' e : Datum)
-        → ((x : Tree) → Alike (Leads is h) (p x) (q x)) → Alike (Leads is h) d' e
-        → Alike (Leads is h) (by_rank n o p d') (by_rank n o q e)
+        → ((x : Tree) → Alike (LeadsBy is h) (p x) (q x)) → Alike (LeadsBy is h) d' e
+        → Alike (LeadsBy is h) (by_rank n o p d') (by_rank n o q e)
     rank_alike n None p q d' e k l = l
     rank_alike n (Some c) p q d' e k l = by (c.rank == n) (k c.expression)
       where
-        by : (b : Bool) → Alike (Leads is h) (p c.expression) (q c.expression)
-            → Alike (Leads is h) (if b then p c.expression else d') (if b then q c.expression else e)
+        by : (b : Bool) → Alike (LeadsBy is h) (p c.expression) (q c.expression)
+            → Alike (LeadsBy is h) (if b then p c.expression else d') (if b then q c.expression else e)
         by true k = k
         by false k = l
 
-    below_alike : (n y : ℕ) → IsName is y → (e : Derivation)
-        → Alike (Leads is h) (below s d en attributes is n y e) (below s d en attributes js n (h y) e)
+    below_alike : (n y : ℕ) → IsInstanceName is y → (e : Derivation)
+        → Alike (LeadsBy is h) (below s d en attributes is n y e) (below s d en attributes js n (h y) e)
     below_alike zero y at e = tt
     below_alike (suc n) y at e =
         rank_alike n (attributes.formula e)
         (λ x. means (setting s d en attributes is (below s d en attributes is n)) [] (data_of.instance y) x)
         (λ x. means (setting s d en attributes js (below s d en attributes js n)) [] (data_of.instance (h y)) x)
         (below s d en attributes is n y e) (below s d en attributes js n (h y) e)
-        (λ x. means_alike (Leads is h) (setting s d en attributes is (below s d en attributes is n))
+        (λ x. means_alike (LeadsBy is h) (setting s d en attributes is (below s d en attributes is n))
         (setting s d en attributes js (below s d en attributes js n))
         (settings_alike (below s d en attributes is n) (below s d en attributes js n) (below_alike n)) x [] [] tt
         (data_of.instance y) (data_of.instance (h y)) (at, refl))
         (below_alike n y at e)
 
-    pub kept_meaning : (me you : Datum) → Alike (Leads is h) me you → (x : Tree)
-        → Alike (Leads is h) (meaning s d en attributes is me x) (meaning s d en attributes js you x)
+    pub kept_meaning : (me you : Datum) → Alike (LeadsBy is h) me you → (x : Tree)
+        → Alike (LeadsBy is h) (meaning s d en attributes is me x) (meaning s d en attributes js you x)
     kept_meaning me you m x =
-        means_alike (Leads is h) (setting s d en attributes is (derived_value s d en attributes is))
+        means_alike (LeadsBy is h) (setting s d en attributes is (derived_value s d en attributes is))
         (setting s d en attributes js (derived_value s d en attributes js))
         (settings_alike (derived_value s d en attributes is) (derived_value s d en attributes js)
         (λ y at e. below_alike (above (attributes.formula e)) y at e)) x [] [] tt me you m

@@ -2,22 +2,22 @@
 use Rattle.std.specs.Prelude.{◌≡◌, ℕ, suc, ◌&&◌, Bool, true, false, cond, List, [], ◌∷◌, ◌++◌, Some, None}
 use Rattle.std.proofs.Common.{refl, sym, ◌∙◌, ap}
 use Rattle.std.proofs.lemmas.Bool.{and_parts}
-use Rattle.step_lexis.specs.declared.token.Mark.TheVariants.{Dollar, Asterisk}
+use Rattle.step_lexer.specs.declared.token.Mark.TheVariants.{Dollar, Asterisk}
 use Rattle.step_structures.specs.Words as words
 use Rattle.step_structures.specs.Words.{Word}
 use Rattle.step_structures.specs.Trees as trees
-use Rattle.step_structures.specs.Trees.{Tree, Trees, Row}
+use Rattle.step_structures.specs.Trees.{Tree, Trees, ExchangeRow}
 use Rattle.express_syntax.specs.Schemas.{Schema, DataType}
 use Rattle.express_syntax.specs.Profile.{Every}
 use Rattle.schema_semantics.specs.Names.{Name}
 use Rattle.schema_semantics.specs.Attributes.{Place}
 use Rattle.conformance.specs.declared.finding.FindingKind.TheVariants.{UnknownEntity, AbstractInstance, MissingSupertype, OneOfBroken, ParameterCount, WrongKind, OutOfBounds, MisplacedStar}
 use Rattle.conformance.specs.Bases.{Base, integer, Domain, base}
-use Rattle.conformance.specs.Fitting.{Target, needs, in_bounds, is_dollar, is_star_or_dollar, is_integer, are_distinct, count, other_kind, values_as, misfit_word, misfit_inner, misfit_group, misfit, misfit_each}
+use Rattle.conformance.specs.ParameterFits.{Target, needs, in_bounds, is_dollar, is_star_or_dollar, is_integer, are_distinct, count, other_kind, values_as, misfit_word, misfit_inner, misfit_group, misfit, misfit_each}
 use Rattle.conformance.specs.Entities.{Entities, records, parameters, types_of, places_of, unknown_entities, abstract_leaves, missing_supertypes, broken_one_ofs, wrong_counts, is_derived, is_optional, data_types}
-use Rattle.conformance.specs.Findings.{whole, at_place, misfit_of, misfit_at, misfits_from, row_findings}
-use Rattle.conformance.specs.Spelt.{WordSpelt, IsSpelt, EachSpelt}
-use Rattle.conformance.specs.SpeltRecords.{GivenSpelt, AreSpelt, IsRowSpelt}
+use Rattle.conformance.specs.Findings.{whole_findings, at_place, misfit_of, misfit_at, misfits_from, row_findings}
+use Rattle.conformance.specs.ValueSpellings.{WordSpelt, IsSpelt, EachSpelt}
+use Rattle.conformance.specs.RecordSpellings.{GivenSpelt, AreSpelt, IsRowSpelt}
 use Rattle.conformance.proofs.Linking.{needed, first_none, second_none, no_kind}
 use Rattle.conformance.proofs.Instances.{next_first, next_second, front_empty, rest_empty, none_whole, none_there}
 
@@ -106,16 +106,16 @@ module _ (s : Schema) (d : Domain) (target : ℕ → Target) where
       are_spelt types name (suc n) ps xs (rest_empty (at_place name (suc n) (misfit_at s d en target types p x)) _ e),
     )
 
-    pub row_spelt : (r : Row) → row_findings s d en target r ≡ [] → IsRowSpelt s d en r
+    pub row_spelt : (r : ExchangeRow) → row_findings s d en target r ≡ [] → IsRowSpelt s d en r
     row_spelt r e =
         let types = types_of s en r.form in
-        let behind_names = next_second (whole r.name UnknownEntity (unknown_entities s en r.form)) _ e in
-        let behind_types = next_second (whole r.name AbstractInstance (abstract_leaves s en types)
-        ++ whole r.name MissingSupertype (missing_supertypes s en types)
-        ++ whole r.name OneOfBroken (broken_one_ofs s en types)) _ behind_names in
+        let behind_names = next_second (whole_findings r.name UnknownEntity (unknown_entities s en r.form)) _ e in
+        let behind_types = next_second (whole_findings r.name AbstractInstance (abstract_leaves s en types)
+        ++ whole_findings r.name MissingSupertype (missing_supertypes s en types)
+        ++ whole_findings r.name OneOfBroken (broken_one_ofs s en types)) _ behind_names in
         record {
           keywords = none_whole r.name UnknownEntity (unknown_entities s en r.form) (next_first _ _ e);
           counts = none_whole r.name ParameterCount (wrong_counts s en r.form) (next_first _ _ behind_types);
           values = are_spelt types r.name 0 (places_of s en r.form) (parameters (records r.form))
-              (next_second (whole r.name ParameterCount (wrong_counts s en r.form)) _ behind_types);
+              (next_second (whole_findings r.name ParameterCount (wrong_counts s en r.form)) _ behind_types);
         }

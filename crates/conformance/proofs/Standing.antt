@@ -3,13 +3,14 @@ use Rattle.std.specs.Prelude.{◌≡◌, ◌≢◌, ℕ, Bool, true, List, [], �
 use Rattle.std.proofs.Common.{refl, sym, subst, inl, inr}
 use Rattle.step_values.specs.Values.{Value, leaf, reference, typed, sequence, bag, Values, none, more}
 use Rattle.step_values.specs.References.{EachReference, EachReferenceOf, EachBagReference, EachBagReferenceOf}
+use Rattle.step_values.proofs.References.{each_in_bag}
 use Rattle.express_syntax.specs.Schemas.{Schema, DataType}
 use Rattle.schema_semantics.specs.Names.{OneOf, Among}
 use Rattle.conformance.specs.Bases.{Base, Domain, base}
 use Rattle.conformance.specs.Entities.{Entities, data_types}
 use Rattle.conformance.specs.Populations.{Slot, Instance}
-use Rattle.conformance.specs.Apart.{Occurs, OccursIn}
-use Rattle.conformance.specs.Standing.{InBag, InBagOf, InUnique, InUniqueOf, StandsInUnique}
+use Rattle.conformance.specs.SeparatingMaps.{Occurs, OccursIn}
+use Rattle.conformance.specs.CollectionMembers.{InBag, InBagOf, InUnique, InUniqueOf, StandsInUnique}
 use Rattle.conformance.specs.Elements.{AnElement, IsReferenceTo, StandsWithin, IsAnotherOfClass, HasUnique, HasUniqueAmong, HasUniqueValue}
 use Rattle.conformance.specs.Pins.{StandsInsideUnique, StandsBesideItsClass, StandTogether}
 
@@ -57,7 +58,7 @@ within_occurs y vs h = element_occurs y (StandsWithin y) (occurs_within y) vs h
 pub is_occurs : (y : ℕ) (vs : Values) → AnElement (IsReferenceTo y) vs → OccursIn y vs
 is_occurs y vs h = element_occurs y (IsReferenceTo y) (λ v e. subst (Occurs y) (sym e) refl) vs h
 
--- .. and what stands in a collection is an element of it, or stands within one
+-- What occurs in a collection is an element of it, or occurs within one.
 pub occurs_is : (y : ℕ) (v : Value) → Occurs y v → IsReferenceTo y v ⊎ StandsWithin y v
 occurs_is y (leaf a) h = elim h [ ]
 occurs_is y (reference z) h = inl (subst (λ w. reference w ≡ reference y) h refl)
@@ -148,7 +149,7 @@ module _ (P : ℕ → Type 0) where
     bags_held (reference y) f = tt
     bags_held (typed n v) f = bags_held v f
     bags_held (sequence vs) f = bags_held_of vs f
-    bags_held (bag vs) f = each_held_of vs f
+    bags_held (bag vs) f = each_in_bag P (bag vs) (each_held_of vs f)
 
     bags_held_of : (vs : Values) → ((y : ℕ) → InBagOf y vs → P y) → EachBagReferenceOf P vs
     bags_held_of none f = tt

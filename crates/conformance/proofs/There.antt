@@ -9,13 +9,13 @@ use Rattle.schema_semantics.specs.Names.{Name, OneOf, Among}
 use Rattle.schema_semantics.specs.Attributes.{Place, same_place}
 use Rattle.schema_semantics.proofs.Lists.{every-at, among-map}
 use Rattle.conformance.specs.Bases.{Base, Domain, base}
-use Rattle.conformance.specs.Fitting.{among}
+use Rattle.conformance.specs.ParameterFits.{is_listed}
 use Rattle.conformance.specs.Entities.{Entities, data_types, is_leaf}
 use Rattle.conformance.specs.Populations.{Slot, Instance, slot_at, instance_at, types_in, types_at}
-use Rattle.conformance.specs.Apart.{Occurs, OccursIn}
-use Rattle.conformance.specs.Standing.{InBag, InBagOf, InUnique, InUniqueOf, StandsInBag, StandsInUnique}
+use Rattle.conformance.specs.SeparatingMaps.{Occurs, OccursIn}
+use Rattle.conformance.specs.CollectionMembers.{InBag, InBagOf, InUnique, InUniqueOf, StandsInBag, StandsInUnique}
 use Rattle.conformance.specs.Rules.{UniqueRule, InverseAttribute}
-use Rattle.conformance.specs.Pins.{OccursAt, IsInKey, Refers, IsInverseSide}
+use Rattle.conformance.specs.Pins.{OccursAt, IsInKey, RefersByInverse, IsInverseSide}
 use Rattle.conformance.specs.RuleLaws.{names, IsClosed, PinnedAreThere}
 use Rattle.conformance.proofs.Standing.{found}
 use Rattle.conformance.proofs.Holding.{named_at}
@@ -119,7 +119,7 @@ module _ (is : List Instance) (closed : IsClosed is) where
   key_named : (y : ℕ) (u : UniqueRule) → IsInKey is y u → Named y
   key_named y u (inl h) = let i = named_at y is u.entity h in name_there y i.0 i.1 i.2
   key_named y u (inr h) =
-      let i = found (λ (x : Instance). IsTrue (among u.entity x.types)
+      let i = found (λ (x : Instance). IsTrue (is_listed u.entity x.types)
       × OneOf (λ (p : Place). OccursAt y (slot_at x.slots p)) u.places) is h in
       let p = found (λ (q : Place). OccursAt y (slot_at i.0.slots q)) u.places i.2.1 in
       let x = slot_among p.0 i.0.slots y p.2 in
@@ -127,14 +127,14 @@ module _ (is : List Instance) (closed : IsClosed is) where
 
   side_named : (y : ℕ) (i : InverseAttribute) → IsInverseSide is y i → Named y
   side_named y i h =
-      let x = found (λ (v : Instance). OneOf (λ (w : Instance). Refers i v w × ((v.name ≡ y) ⊎ (w.name ≡ y))) is)
+      let x = found (λ (v : Instance). OneOf (λ (w : Instance). RefersByInverse i v w × ((v.name ≡ y) ⊎ (w.name ≡ y))) is)
       is h in
-      let z = found (λ (w : Instance). Refers i x.0 w × ((x.0.name ≡ y) ⊎ (w.name ≡ y))) is x.2 in
+      let z = found (λ (w : Instance). RefersByInverse i x.0 w × ((x.0.name ≡ y) ⊎ (w.name ≡ y))) is x.2 in
       elim z.2.1 [ inl e ↦ name_there y x.0 x.1 e | inr e ↦ name_there y z.0 z.1 e ]
 
 pub pinned_are_there : PinnedAreThere
 pinned_are_there s d en rules chosen is closed y (inl (inl h)) =
-    type_named y is (λ e. IsTrue (is_leaf s en (types_at is y) e) × (among e chosen ≡ false)) h
+    type_named y is (λ e. IsTrue (is_leaf s en (types_at is y) e) × (is_listed e chosen ≡ false)) h
 pinned_are_there s d en rules chosen is closed y (inl (inr (inl h))) = bag_named is closed s d en y h
 pinned_are_there s d en rules chosen is closed y (inl (inr (inr (inl h)))) =
     let u = found (IsInKey is y) rules.uniques h in key_named is closed y u.0 u.2

@@ -9,7 +9,7 @@ use Rattle.step_values.specs.Values.{leaf, typed, sequence, bag, Values, more}
 use Rattle.express_syntax.specs.Schemas.{Schema, named}
 use Rattle.schema_semantics.specs.Names.{Name}
 use Rattle.conformance.specs.Bases.{Aggregate, Base, select, aggregate, Domain, base}
-use Rattle.conformance.specs.Fitting.{is_entity, has_no_order, inner, or_this, gathered, element, value_as, values_as}
+use Rattle.conformance.specs.ParameterFits.{is_entity, has_no_order, inner, base_or_this, gathered, element, value_as, values_as}
 use Rattle.conformance.specs.Fits.{IsLeftOut, Gathers, Typing, Fits, FitEach}
 use Rattle.conformance.proofs.Returning.{same_aggregate, gathered_set}
 
@@ -45,7 +45,7 @@ module _ (s : Schema) (d : Domain) where
       pub form_fits : (b c : Base) (x : Tree) → Fits s d typing c (value_as s d b x) → HasForm c x
       form_fits b c (trees.leaf w) f = tt
       form_fits b c (trees.typed word x) f =
-          (f.0, f.1, form_fits (or_this s d b (inner s d b (upper word))) f.0 x f.2)
+          (f.0, f.1, form_fits (base_or_this s d b (inner s d b (upper word))) f.0 x f.2)
       form_fits b c (trees.group xs) f =
           let g = gathers b c (values_as s d (element s d b) xs) f in
           (g.1.of, g.1.is_of, forms_fit g.1.of.optional (element s d b) (base d g.1.of.element) xs g.1.each)
@@ -141,9 +141,9 @@ module _ (s : Schema) (d : Domain) where
     one_value b c (trees.leaf w) h f g = refl
     one_value b c (trees.typed word x) h f g =
         let same : f.0 ≡ g.0 = inner_named b f.0 (upper word) f.1 ∙ sym (inner_named c g.0 (upper word) g.1) in
-        ap (λ o. typed (upper word) (value_as s d (or_this s d b o) x)) f.1
+        ap (λ o. typed (upper word) (value_as s d (base_or_this s d b o) x)) f.1
         ∙ ap (λ e. typed (upper word) (value_as s d e x)) same
-        ∙ sym (ap (λ o. typed (upper word) (value_as s d (or_this s d c o) x)) g.1)
+        ∙ sym (ap (λ o. typed (upper word) (value_as s d (base_or_this s d c o) x)) g.1)
     one_value b c (trees.group xs) h f g =
         let parts = elements_like b c f.0 g.0 h f.1 g.1 in
         ap (λ e. gathered e (values_as s d (element s d e) xs)) f.1

@@ -8,7 +8,7 @@ use Rattle.std.proofs.Math.ListN.{drop_of_length-le}
 use Rattle.step_literals.specs.Tokens.{is_e, sign_len}
 use Rattle.step_literals.specs.Numbers.{exponent_text}
 use Rattle.step_literals.specs.Decimals.{mantissa_text, part_digits, is_negative, signed, mantissa, exponent, ten_to, finest, units, IsWorth}
-use Rattle.conformance.specs.Fitting.{is_integer}
+use Rattle.conformance.specs.ParameterFits.{is_integer}
 
 neither_first : (a b : Bool) → (a || b) ≡ false → a ≡ false
 neither_first true b e = absurd (cc)

@@ -1,7 +1,7 @@
 -- A file that is written anew from one without findings has none.
 use Rattle.std.specs.Prelude.{◌≡◌, ℕ, suc, Bool, true, false, cond, List, [], ◌∷◌, ◌++◌, map, ◌⊎◌}
 use Rattle.std.proofs.Common.{refl, ◌∙◌, subst, inl, inr}
-use Rattle.step_structures.specs.Trees.{Row, Section, File, rows_of}
+use Rattle.step_structures.specs.Trees.{ExchangeRow, Section, File, rows_of}
 use Rattle.express_syntax.specs.Schemas.{Schema}
 use Rattle.express_syntax.specs.Profile.{Every}
 use Rattle.schema_semantics.specs.Names.{Among}
@@ -10,13 +10,13 @@ use Rattle.conformance.specs.declared.finding.FindingKind.TheVariants.{SchemaNam
 use Rattle.conformance.specs.declared.finding.Spot.TheVariants.{Nothing}
 use Rattle.conformance.specs.declared.finding.Finding.{Finding}
 use Rattle.conformance.specs.Bases.{Domain}
-use Rattle.conformance.specs.Fitting.{Target}
+use Rattle.conformance.specs.ParameterFits.{Target}
 use Rattle.conformance.specs.Entities.{Entities}
 use Rattle.conformance.specs.Findings.{target_in, row_findings, is_of_schema, findings}
 use Rattle.conformance.specs.Populations.{Instance, instance_of, instances_from, population_of}
-use Rattle.conformance.specs.SpeltRecords.{IsRowSpelt}
-use Rattle.conformance.specs.Images.{IsLed, IsImage}
-use Rattle.conformance.specs.Rewritten.{IsRewritten}
+use Rattle.conformance.specs.RecordSpellings.{IsRowSpelt}
+use Rattle.conformance.specs.Images.{IsLed, IsTypedImage}
+use Rattle.conformance.specs.RewrittenFiles.{IsRewritten}
 use Rattle.conformance.specs.PopulationLaws.{AreOf}
 use Rattle.conformance.proofs.Instances.{front_empty, rest_empty}
 use Rattle.conformance.proofs.Populations.{empty_each, every_other, population_conforms}
@@ -34,7 +34,7 @@ named_so false e = absurd (cc)
 module _ (s : Schema) (d : Domain) (en : Entities) where
   -- an instance is that of a row
   row_behind : (k : ℕ) (xs : List Section) (j : Instance) → Among j (instances_from s d en k xs)
-      → (l : ℕ) × (q : Row) × Among q (rows_of xs) × (instance_of s d en l q ≡ j)
+      → (l : ℕ) × (q : ExchangeRow) × Among q (rows_of xs) × (instance_of s d en l q ≡ j)
   row_behind k [] j m = elim m [ ]
   row_behind k (x ∷ xs) j m =
       by (among-either j (map (instance_of s d en k) x.rows) (instances_from s d en (suc k) xs) m)
@@ -42,15 +42,15 @@ module _ (s : Schema) (d : Domain) (en : Entities) where
     where
       by : Among j (map (instance_of s d en k) x.rows) ⊎ Among j (instances_from s d en (suc k) xs)
           → (Among j (instances_from s d en (suc k) xs)
-          → (l : ℕ) × (q : Row) × Among q (rows_of xs) × (instance_of s d en l q ≡ j))
-          → (l : ℕ) × (q : Row) × Among q (x.rows ++ rows_of xs) × (instance_of s d en l q ≡ j)
+          → (l : ℕ) × (q : ExchangeRow) × Among q (rows_of xs) × (instance_of s d en l q ≡ j))
+          → (l : ℕ) × (q : ExchangeRow) × Among q (x.rows ++ rows_of xs) × (instance_of s d en l q ≡ j)
       by (inl m) more =
           let from = from-map (instance_of s d en k) x.rows j m in
           (k, from.0, among-left from.0 x.rows (rows_of xs) from.1, from.2)
       by (inr m) more = let rest = more m in (rest.0, rest.1, among-right rest.1 x.rows (rows_of xs) rest.2, rest.3)
 
   -- a row has an instance
-  instance_there : (k : ℕ) (xs : List Section) (r : Row) → Among r (rows_of xs)
+  instance_there : (k : ℕ) (xs : List Section) (r : ExchangeRow) → Among r (rows_of xs)
       → (l : ℕ) × Among (instance_of s d en l r) (instances_from s d en k xs)
   instance_there k [] r m = elim m [ ]
   instance_there k (x ∷ xs) r m = by (among-either r x.rows (rows_of xs) m) (instance_there (suc k) xs r)
@@ -81,7 +81,7 @@ module _ (s : Schema) (d : Domain) (en : Entities) where
       (rows_of f.sections) (empty_each (row_findings s d en target) (rows_of f.sections) (rest_empty _ _ e))
 
   module _ (h : ℕ → ℕ) (f g : File) (new : IsRewritten s d en h f g) where
-    image : IsImage s d en h (population_of s d en f) (population_of s d en g)
+    image : IsTypedImage s d en h (population_of s d en f) (population_of s d en g)
     image =
         record {
           led = λ j m.

@@ -1,5 +1,5 @@
--- When a population conforms to a schema, whatever the form of its records and however its values are spelt
--- (ISO 10303-11, 8 and 9; ISO 10303-21, 11).
+-- When a population conforms to a schema, whatever the form of its records and the spelling of its
+-- values (ISO 10303-11, 8 and 9; ISO 10303-21, 11).
 use Rattle.std.specs.Prelude.{◌≡◌, Bool, true, false, List, map, ◌⊎◌, ◌↔◌}
 use Rattle.std.specs.Option.{option_map}
 use Rattle.step_values.specs.Leaves.{derived}
@@ -13,12 +13,13 @@ use Rattle.conformance.specs.Populations.{Slot, Instance, instance_at}
 use Rattle.conformance.specs.Fits.{IsLeftOut, Typing, Fits}
 
 module _ (s : Schema) (d : Domain) (typing : Typing) where
-  -- the value fits all of these data types
+  -- The value fits all of these data types.
   abbrev pub FitsAll : List DataType → Value → Type 0
   FitsAll ks v = Every (λ (k : DataType). Fits s d typing (base d k) v) ks
 
-  -- A value is derived where the attribute is redeclared so; else it is left out where it is OPTIONAL, or it fits what
-  -- the attribute is declared and redeclared as.
+  -- If the attribute is redeclared as derived, the value is derived. Otherwise the value is left
+  -- out and the attribute is OPTIONAL, or the value fits each data type with which the attribute is
+  -- declared and redeclared.
   abbrev pub ValueFits : Bool → Bool → List DataType → Value → Type 0
   ValueFits true optional ks v = v ≡ leaf derived
   ValueFits false optional ks v = IsLeftOut optional v ⊎ FitsAll ks v
@@ -29,8 +30,13 @@ module _ (s : Schema) (d : Domain) (typing : Typing) where
         ValueFits (is_derived s en types x.place) (is_optional s en types x.place) (data_types s en types x.place)
         x.value
 
-    -- The types of an instance are whole, none that is a leaf among them is ABSTRACT, and no ONEOF has two of them; it
-    -- has a value for each explicit attribute that one of them declares, and for no other; and its values fit.
+    -- An instance conforms:
+    -- - no type without a subtype among its types is ABSTRACT;
+    -- - each supertype of its types is one of its types;
+    -- - its types include at most one operand of each ONEOF;
+    -- - it has a value for each explicit attribute that one of its types declares, and for no
+    --   other;
+    -- - its values fit.
     pub record Conforms (i : Instance) : Type 0 where
       pub leaves : abstract_leaves s en i.types ≡ 0
       pub supertypes : missing_supertypes s en i.types ≡ 0
@@ -39,8 +45,10 @@ module _ (s : Schema) (d : Domain) (typing : Typing) where
           → Among (e, a) (map (λ (x : Slot). x.place) i.slots) ↔ (Among e i.types × DeclaresExplicit s e a)
       pub slots : Every (SlotFits i.types) i.slots
 
+-- The types of the instance with a name, if any.
 abbrev pub typing_of : List Instance → Typing
 typing_of is y = option_map (λ (i : Instance). i.types) (instance_at is y)
 
+-- Each instance of the population conforms.
 abbrev pub PopulationConforms : Schema → Domain → Entities → List Instance → Type 0
 PopulationConforms s d en is = Every (Conforms s d (typing_of is) en) is

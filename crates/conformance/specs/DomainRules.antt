@@ -7,7 +7,7 @@ use Rattle.schema_semantics.specs.Names.{Name, listed}
 use Rattle.schema_semantics.specs.Ranks.{Self, HasReason}
 use Rattle.schema_semantics.specs.Parts.{label_of, TypeRuleHasReason}
 
--- what states a rule: an entity, or a defined type
+-- The declaration that states a domain rule: an entity or a defined type.
 pub data Holder : Type 0 where
   of_entity : Name → Holder
   of_type : Name → Holder
@@ -16,29 +16,30 @@ abbrev pub holder_name : Holder → Name
 holder_name (of_entity n) = n
 holder_name (of_type n) = n
 
--- a rule that is checked
+-- A domain rule that is checked.
 pub record DomainRule : Type 0 where
   pub holder : Holder
   pub label : Name
   pub condition : Tree
 
--- a rule as it is written
-pub record Statement : Type 0 where
+-- A domain rule as the schema states it.
+pub record DomainStatement : Type 0 where
   pub holder : Holder
   pub label : Name
   pub body : Body
 
--- those of WHERE from the n-th on; one without a label is `?` and its number
-abbrev pub statements_from : Holder → ℕ → List Rule → List Statement
-statements_from h n [] = []
-statements_from h n (r ∷ rs) =
-    record { holder = h; label = label_of n r.label; body = r.body } ∷ statements_from h (n + 1) rs
+-- The rules of a WHERE clause, numbered from `n`. A rule without a label has the label `?` and its
+-- number.
+abbrev pub domain_statements_from : Holder → ℕ → List Rule → List DomainStatement
+domain_statements_from h n [] = []
+domain_statements_from h n (r ∷ rs) =
+    record { holder = h; label = label_of n r.label; body = r.body } ∷ domain_statements_from h (n + 1) rs
 
--- in the order of the text
-abbrev pub statements_in : List Declaration → List Statement
+-- The domain rules of these declarations, in the order of the text.
+abbrev pub statements_in : List Declaration → List DomainStatement
 statements_in [] = []
-statements_in (type t ∷ ds) = statements_from (of_type t.name) 1 (listed t.rules) ++ statements_in ds
-statements_in (entity e ∷ ds) = statements_from (of_entity e.name) 1 (listed e.rules) ++ statements_in ds
+statements_in (type t ∷ ds) = domain_statements_from (of_type t.name) 1 (listed t.rules) ++ statements_in ds
+statements_in (entity e ∷ ds) = domain_statements_from (of_entity e.name) 1 (listed e.rules) ++ statements_in ds
 statements_in (skipped p ∷ ds) = statements_in ds
 
 module _ (s : Schema) where
@@ -47,8 +48,8 @@ module _ (s : Schema) where
   RuleHasReason (of_entity e) b r = HasReason s (Self e) b r
   RuleHasReason (of_type t) b r = TypeRuleHasReason s (named t) b r
 
-  -- these are those that are checked, in turn
-  abbrev pub AreChecked : List Statement → List DomainRule → Type 0
+  -- `rules` are the stated rules that have no reason to be left unchecked, in order.
+  abbrev pub AreChecked : List DomainStatement → List DomainRule → Type 0
   AreChecked [] rules = rules ≡ []
   AreChecked (x ∷ xs) rules =
       (((r : Reason) → RuleHasReason x.holder x.body r → ⊥)

@@ -1,4 +1,4 @@
--- What a schema says of instances: their types, and the attributes that their records have to have
+-- What a schema requires of instances: their types, and the attributes that their records have
 -- (ISO 10303-11, 9.2; ISO 10303-21, 11.2).
 use Rattle.std.specs.Prelude.{◌≡◌, ℕ, ◌==◌, ◌&&◌, not, nat_lt, Bool, false, cond, List, [], ◌∷◌, length, map, flat_map, Option, Some, ◌⊎◌, ◌↔◌, IsTrue, bytes_eq}
 use Rattle.std.specs.List.{list_any, list_all, filter}
@@ -8,24 +8,27 @@ use Rattle.step_structures.specs.Trees.{Trees, Record, Form, internal, external}
 use Rattle.express_syntax.specs.Schemas.{Schema, Declaration, entity, Entity, own, Attribute, Explicit, Derived, DataType, Supertype, of_one_of}
 use Rattle.schema_semantics.specs.Names.{Name, OneOf, Among, listed, entities, declaration_of, IsEntityAt, IsKindOf}
 use Rattle.schema_semantics.specs.Attributes.{Place, own_places, ArePlaces, IsRedeclaration, HasFirstShape}
-use Rattle.conformance.specs.Fitting.{entity_names, among, is_entity, count}
+use Rattle.conformance.specs.ParameterFits.{entity_names, is_listed, is_entity, count}
 
--- What the entities of a schema say, as functions.
+-- The meaning of a schema's entities, as functions.
 pub record Entities : Type 0 where
+  -- The first entity is the second, or a subtype of it at any depth.
   pub is_kind_of : Name → Name → Bool
+  -- The explicit attributes of an entity, inherited ones first.
   pub places : Name → List Place
-  -- the declarations of explicit attributes by which an entity declares the attribute of a place, or redeclares it
+  -- The declarations of an entity that declare this attribute, or redeclare it as explicit.
   pub declarations : Name → Place → List Explicit
-  -- the entity redeclares it as derived
+  -- The entity redeclares this attribute as derived.
   pub derives : Name → Place → Bool
 
--- ys are those of xs of which P holds, in order
+-- `ys` are the elements of `xs` for which `P` holds, in order.
 abbrev pub AreThose : {A : Type 0} → (A → Type 0) → List A → List A → Type 0
 AreThose P [] ys = ys ≡ []
 AreThose P (x ∷ xs) ys = (P x × (zs : List _) × (ys ≡ x ∷ zs) × AreThose P xs zs) ⊎ ((P x → ⊥) × AreThose P xs ys)
 
--- The entity e declares the explicit attribute a of p so, its own, or redeclares it with a data type of the first shape;
--- with another one the redeclaration isn't checked (ISO 10303-11, 9.2.3.4).
+-- By the declaration `x` the entity `e` declares the explicit attribute `a` of `p`: `e` is `p`, or
+-- `x` redeclares the attribute with a data type that has the shape of the first. A redeclaration
+-- with a data type of another shape isn't checked (ISO 10303-11, 9.2.3.4).
 abbrev pub DeclaresSo : Schema → Entity → Place → Explicit → Type 0
 DeclaresSo s e (p, a) x =
     ((e.name ≡ p) × Among (own a) x.attributes)
@@ -35,7 +38,7 @@ abbrev pub RedeclaresDerived : Schema → Name → Place → Type 0
 RedeclaresDerived s n (p, a) =
     (e : Entity) × IsEntityAt s n e × OneOf (λ (d : Derived). IsRedeclaration s d.attribute p a) (listed e.derived)
 
--- These are the functions of a schema.
+-- These functions are the meaning of the entities of `s`.
 pub record AreEntities (s : Schema) (en : Entities) : Type 0 where
   pub kinds : (a b : Name) → IsTrue (en.is_kind_of a b) ↔ IsKindOf s a b
   pub places : ArePlaces s en.places
@@ -75,32 +78,33 @@ records (external rs) = rs
 abbrev pub named_entity : Record → Name
 named_entity r = upper r.keyword
 
-abbrev pub joined : Trees → Trees → Trees
-joined trees.none ys = ys
-joined (trees.one x xs) ys = trees.one x (joined xs ys)
+abbrev pub joined_trees : Trees → Trees → Trees
+joined_trees trees.none ys = ys
+joined_trees (trees.one x xs) ys = trees.one x (joined_trees xs ys)
 
--- the parameters of all records, as they stand
+-- The parameters of all records, in the order of the text.
 abbrev pub parameters : List Record → Trees
 parameters [] = trees.none
-parameters (r ∷ rs) = joined r.values (parameters rs)
+parameters (r ∷ rs) = joined_trees r.values (parameters rs)
 
--- so many of a list pass a test
+-- The number of elements of `xs` that pass the test.
 abbrev pub how_many : {A : Type 0} → (A → Bool) → List A → ℕ
 how_many test xs = length (filter test xs)
 
 module _ (s : Schema) (en : Entities) where
-  -- The types of an instance: of one that is mapped internally its entity and all supertypes, of one that is mapped
-  -- externally the entities of its records; in the order of the text (ISO 10303-21, 11.2.5).
+  -- The types of an instance, in the order of the schema (ISO 10303-21, 11.2.5):
+  -- - with the internal mapping, the entity of its record and all supertypes of that entity;
+  -- - with the external mapping, the entities of its records.
   abbrev pub types_of : Form → List Name
   types_of (internal r) = filter (en.is_kind_of (named_entity r)) (entity_names s)
-  types_of (external rs) = filter (λ e. among e (map named_entity rs)) (entity_names s)
+  types_of (external rs) = filter (λ e. is_listed e (map named_entity rs)) (entity_names s)
 
-  -- the attributes whose values its records have to have
+  -- The explicit attributes whose values the records of an instance have to hold, in order.
   abbrev pub places_of : Form → List Place
   places_of (internal r) = en.places (named_entity r)
   places_of (external rs) = flat_map (λ r. own_places_of s (named_entity r)) rs
 
-  -- no other type is below it
+  -- No other of these types is a subtype of `e`.
   abbrev pub is_leaf : List Name → Name → Bool
   is_leaf types e = not (list_any (λ t. en.is_kind_of t e && not (bytes_eq t e)) types)
 
@@ -110,24 +114,26 @@ module _ (s : Schema) (en : Entities) where
   abbrev pub abstract_leaves : List Name → ℕ
   abstract_leaves types = how_many (λ e. is_leaf types e && is_abstract s e) types
 
-  -- supertypes of types that aren't among them
+  -- The number of supertypes of these types that aren't among these types.
   abbrev pub missing_supertypes : List Name → ℕ
   missing_supertypes types =
-      how_many (λ e. list_any (λ t. en.is_kind_of t e) types && not (among e types)) (entity_names s)
+      how_many (λ e. list_any (λ t. en.is_kind_of t e) types && not (is_listed e types)) (entity_names s)
 
-  -- two operands are among the types
+  -- The number of ONEOFs of which two operands are among the types.
   abbrev pub broken_one_ofs : List Name → ℕ
-  broken_one_ofs types = how_many (λ names. nat_lt 1 (how_many (λ t. among t names) types)) (one_ofs s)
+  broken_one_ofs types = how_many (λ names. nat_lt 1 (how_many (λ t. is_listed t names) types)) (one_ofs s)
 
   abbrev pub has_count : List Place → Record → Bool
   has_count places r = count r.values == length places
 
-  -- records with another number of parameters than they have attributes
+  -- The number of records whose number of parameters isn't the number of attributes that they have
+  -- to hold.
   abbrev pub wrong_counts : Form → ℕ
   wrong_counts (internal r) = cond (has_count (en.places (named_entity r)) r) 0 1
   wrong_counts (external rs) = how_many (λ r. not (has_count (own_places_of s (named_entity r)) r)) rs
 
-  -- the declarations and redeclarations of the attribute of a place by these types, in the order of the text
+  -- The declarations and redeclarations of an explicit attribute by these types, in the order of
+  -- the types.
   abbrev pub declarations_by : List Name → Place → List Explicit
   declarations_by types p = flat_map (λ t. en.declarations t p) types
 

@@ -1,4 +1,4 @@
--- What is wrong with an exchange structure, in order (ISO 10303-21, 11).
+-- The findings of an exchange structure, in order (ISO 10303-21, 11).
 use Rattle.std.specs.Prelude.{ℕ, suc, ◌==◌, ◌||◌, ◌&&◌, not, Bool, true, false, cond, List, [], ◌∷◌, ◌++◌, map, flat_map, Option, Some, None, bytes_eq}
 use Rattle.std.specs.List.{list_all, repeat, take_while}
 use Rattle.step_literals.specs.Words.{upper}
@@ -7,7 +7,7 @@ use Rattle.step_literals.specs.declared.literal.items.Item.{Item}
 use Rattle.step_literals.specs.declared.literal.items.Item.TheVariants.{Code}
 use Rattle.step_structures.specs.Words.{string}
 use Rattle.step_structures.specs.Trees as trees
-use Rattle.step_structures.specs.Trees.{Tree, Trees, Record, Form, Row, Section, File, rows_of}
+use Rattle.step_structures.specs.Trees.{Tree, Trees, Record, Form, ExchangeRow, Section, File, rows_of}
 use Rattle.express_syntax.specs.Schemas.{Schema, DataType}
 use Rattle.schema_semantics.specs.Names.{Name}
 use Rattle.schema_semantics.specs.Attributes.{Place}
@@ -16,15 +16,17 @@ use Rattle.conformance.specs.declared.finding.FindingKind.TheVariants.{UnknownEn
 use Rattle.conformance.specs.declared.finding.Spot.TheVariants.{Place as At, Nothing}
 use Rattle.conformance.specs.declared.finding.Finding.{Finding}
 use Rattle.conformance.specs.Bases.{Domain, base}
-use Rattle.conformance.specs.Fitting.{Target, absent, unknown, of_types, or_else, is_dollar, is_star_or_dollar, is_entity, misfit}
+use Rattle.conformance.specs.ParameterFits.{Target, absent, unknown, of_types, first_finding, is_dollar, is_star_or_dollar, is_entity, misfit}
 use Rattle.conformance.specs.Entities.{Entities, named_entity, records, parameters, types_of, places_of, unknown_entities, abstract_leaves, missing_supertypes, broken_one_ofs, wrong_counts, is_derived, is_optional, data_types}
 
--- the code of a character of ISO 10646; none of another page or of a byte that is no character
+-- The code of a character of ISO 10646; `None` for a character of another code page and for a byte
+-- that isn't a character.
 abbrev pub code_of : Item → Option ℕ
 code_of (Code c) = Some c
 code_of i = None
 
--- a space or an opening brace, behind which a schema's name may have an object identifier (ISO 10303-21, 8.2.4)
+-- The character is a space or an opening brace: an object identifier may follow the schema's name
+-- after it (ISO 10303-21, 8.2.4).
 abbrev pub ends_name : Option ℕ → Bool
 ends_name None = false
 ends_name (Some c) = (c == 32) || (c == 123)
@@ -33,21 +35,23 @@ abbrev pub or_zero : Option ℕ → ℕ
 or_zero None = 0
 or_zero (Some c) = c
 
--- a string is the name of a schema, in letters of any case
+-- The string names the schema, in letters of any case. What follows a space or an opening brace
+-- doesn't count.
 abbrev pub names_schema : Name → List ℕ → Bool
 names_schema name text = bytes_eq (upper (map or_zero (take_while (λ c. not (ends_name c)) (map code_of (string_items text))))) name
 
--- the string in a list alone in a list; no bytes where it isn't so
+-- The string that is the only element of a list, which is itself the only one; otherwise empty.
 abbrev pub string_in : Trees → List ℕ
 string_in (trees.one (trees.group (trees.one (trees.leaf (string text)) trees.none)) trees.none) = text
 string_in xs = []
 
--- the third record of a header is FILE_SCHEMA (ISO 10303-21, 8.2.4)
+-- The schema's name in the header section, whose third record is FILE_SCHEMA; otherwise empty
+-- (ISO 10303-21, 8.2.4).
 abbrev pub schema_text : List Record → List ℕ
 schema_text (d ∷ n ∷ r ∷ rs) = string_in r.values
 schema_text rs = []
 
--- a section that names a schema names this one (ISO 10303-21, 11.1)
+-- A data section that names a schema names this one (ISO 10303-21, 11.1).
 abbrev pub heading_names : Name → Option (List ℕ × List ℕ) → Bool
 heading_names name None = true
 heading_names name (Some h) = names_schema name h.1
@@ -56,11 +60,11 @@ abbrev pub is_of_schema : Schema → File → Bool
 is_of_schema s f =
     names_schema s.name (schema_text f.header) && list_all (λ (x : Section). heading_names s.name x.heading) f.sections
 
--- so many findings of a whole instance
-abbrev pub whole : ℕ → FindingKind → ℕ → List Finding
-whole name kind times = repeat times (record { kind = kind; instance = name; spot = At 0 } ∷ [])
+-- `times` findings of the whole instance.
+abbrev pub whole_findings : ℕ → FindingKind → ℕ → List Finding
+whole_findings name kind times = repeat times (record { kind = kind; instance = name; spot = At 0 } ∷ [])
 
--- the first list that has an item
+-- The first list, or the second if the first is empty.
 abbrev pub or_next : List Finding → List Finding → List Finding
 or_next [] ys = ys
 or_next (x ∷ xs) ys = x ∷ xs
@@ -70,45 +74,48 @@ at_place name n None = []
 at_place name n (Some kind) = record { kind = kind; instance = name; spot = At n } ∷ []
 
 module _ (s : Schema) (d : Domain) (en : Entities) where
-  -- what the name of an instance leads to
+  -- What a reference to an instance of this form refers to.
   abbrev pub target_form : Form → Target
   target_form f = cond (list_all (λ r. is_entity s (named_entity r)) (records f)) (of_types (types_of s en f)) unknown
 
-  abbrev pub target_in : List Row → ℕ → Target
+  abbrev pub target_in : List ExchangeRow → ℕ → Target
   target_in [] y = absent
   target_in (r ∷ rows) y = cond (r.name == y) (target_form r.form) (target_in rows y)
 
   module _ (target : ℕ → Target) where
-    -- the data types in turn; the first misfit tells
+    -- The finding of the first of these data types that the parameter doesn't fit, if any.
     abbrev pub misfit_of : List DataType → Tree → Option FindingKind
     misfit_of [] x = None
-    misfit_of (k ∷ ks) x = or_else (misfit s d target (base d k) x) (misfit_of ks x)
+    misfit_of (k ∷ ks) x = first_finding (misfit s d target (base d k) x) (misfit_of ks x)
 
-    -- The finding of the parameter of a place. `*` and `$` stand for a value that a redeclaration derives
-    -- (ISO 10303-21, 11.2.5.2).
+    -- The finding of the parameter of an attribute, if any. The value of an attribute that a
+    -- redeclaration derives is `*` or `$` (ISO 10303-21, 11.2.5.2). For other attributes `$` is
+    -- allowed if they are OPTIONAL, and any other value has to fit the data types.
     abbrev pub misfit_at : List Name → Place → Tree → Option FindingKind
     misfit_at types p x = cond (is_derived s en types p) (cond (is_star_or_dollar x) None (Some MisplacedStar))
         (cond (is_dollar x && is_optional s en types p) None (misfit_of (data_types s en types p) x))
 
-    -- those of the parameters behind so many
+    -- The findings of these parameters, which follow `n` others.
     abbrev pub misfits_from : ℕ → ℕ → List Name → List Place → Trees → List Finding
     misfits_from name n types (p ∷ ps) (trees.one x xs) =
         at_place name (suc n) (misfit_at types p x) ++ misfits_from name (suc n) types ps xs
     misfits_from name n types ps xs = []
 
-    -- Those of an instance: its keywords, then its types, then its numbers of parameters, then the parameters; each
-    -- only where the ones before it have none.
-    abbrev pub row_findings : Row → List Finding
+    -- The findings of an instance. If keywords aren't entities, only these; otherwise, if its types
+    -- are wrong, only those of types; otherwise, if numbers of parameters are wrong, only those;
+    -- otherwise those of each parameter.
+    abbrev pub row_findings : ExchangeRow → List Finding
     row_findings r =
         let types = types_of s en r.form in
-        or_next (whole r.name UnknownEntity (unknown_entities s en r.form))
-        (or_next (whole r.name AbstractInstance (abstract_leaves s en types)
-        ++ whole r.name MissingSupertype (missing_supertypes s en types)
-        ++ whole r.name OneOfBroken (broken_one_ofs s en types))
-        (or_next (whole r.name ParameterCount (wrong_counts s en r.form))
+        or_next (whole_findings r.name UnknownEntity (unknown_entities s en r.form))
+        (or_next (whole_findings r.name AbstractInstance (abstract_leaves s en types)
+        ++ whole_findings r.name MissingSupertype (missing_supertypes s en types)
+        ++ whole_findings r.name OneOfBroken (broken_one_ofs s en types))
+        (or_next (whole_findings r.name ParameterCount (wrong_counts s en r.form))
         (misfits_from r.name 0 types (places_of s en r.form) (parameters (records r.form)))))
 
-  -- that of the schema's name, then those of the instances in the order of the file
+  -- The findings of a file: that of the schema's name, if any, then those of the instances in the
+  -- order of the file.
   abbrev pub findings : File → List Finding
   findings f =
       cond (is_of_schema s f) [] (record { kind = SchemaName; instance = 0; spot = Nothing } ∷ [])

@@ -1,7 +1,8 @@
--- The laws of meanings.
+-- The laws of the meaning of attributes, expressions and domain rules, and of what images keep of
+-- it.
 use Rattle.std.specs.Prelude.{◌≡◌, ◌≢◌, ◌↔◌, ℕ, suc, ◌<◌, ◌==◌, nat_lt, pos, ◌^◌, Bool, false, IsTrue, List, [], map, Option, None, Some, bytes_eq, if◌then◌else◌}
 use Rattle.std.specs.List.{IsDistinct}
-use Rattle.step_structures.specs.Trees.{Row, File, rows_of}
+use Rattle.step_structures.specs.Trees.{ExchangeRow, File, rows_of}
 use Rattle.express_syntax.specs.declared.expression.Logical.{Logical}
 use Rattle.express_syntax.specs.declared.expression.Logical.TheVariants.{False, Unknown, True}
 use Rattle.express_syntax.specs.Trees.{Tree}
@@ -27,11 +28,11 @@ use Rattle.conformance.specs.Attributes.{Formula, Attributes, AreAttributes}
 use Rattle.conformance.specs.Meanings.{setting, derived_value, meaning}
 use Rattle.conformance.specs.DomainRules.{DomainRule, AreDomainRules}
 use Rattle.conformance.specs.DomainFindings.{selves, outcome, rule_findings}
-use Rattle.conformance.specs.Alike.{Alike}
-use Rattle.conformance.specs.MeaningImages.{IsName, HasPlacesOnce, Leads, IsLedTo, ReferrersAreLed, IsKept}
+use Rattle.conformance.specs.AlikeValues.{Alike}
+use Rattle.conformance.specs.MeaningImages.{IsInstanceName, HasPlacesOnce, LeadsBy, IsLedTo, ReferrersAreLed, IsKept}
 
--- What a schema whose names are resolved says of attributes leaves no choice: it is given by the schema alone, whatever
--- the population.
+-- A schema whose names are resolved determines the meaning of its attributes, whatever the
+-- population.
 abbrev pub AttributesAreOne : Type 0
 AttributesAreOne = (s : Schema) (inverses : List InverseAttribute) → IsResolved s → (a b : Attributes)
     → AreAttributes s inverses a → AreAttributes s inverses b → a ≡ b
@@ -40,54 +41,61 @@ AttributesAreOne = (s : Schema) (inverses : List InverseAttribute) → IsResolve
 abbrev pub DomainRulesAreOne : Type 0
 DomainRulesAreOne = (s : Schema) (ps qs : List DomainRule) → AreDomainRules s ps → AreDomainRules s qs → ps ≡ qs
 
--- Each reference of a population that conforms names an instance, as laws of images ask.
+-- Each reference of a population that conforms names an instance.
 abbrev pub ConformingAreClosed : Type 0
 ConformingAreClosed = (s : Schema) (d : Domain) (en : Entities) → AreEntities s en → (is : List Instance)
     → PopulationConforms s d en is → IsClosed is
 
--- the keywords of an instance are entities, and none stands twice
-abbrev pub IsWhole : Schema → Entities → Row → Type 0
-IsWhole s en r = (unknown_entities s en r.form ≡ 0) × IsDistinct bytes_eq (map named_entity (records r.form))
+-- The keywords of an instance are entities, and no two of them are equal.
+abbrev pub HasDistinctEntities : Schema → Entities → ExchangeRow → Type 0
+HasDistinctEntities s en r = (unknown_entities s en r.form ≡ 0) × IsDistinct bytes_eq (map named_entity (records r.form))
 
--- Then it has one value for each attribute, as laws of images ask.
+-- If the keywords of each instance of a file are distinct entities, no instance has two values for
+-- one attribute.
 abbrev pub FilesHavePlacesOnce : Type 0
 FilesHavePlacesOnce = (s : Schema) (d : Domain) (en : Entities) → IsResolved s → AreEntities s en → (f : File)
-    → Every (IsWhole s en) (rows_of f.sections) → Every HasPlacesOnce (population_of s d en f)
+    → Every (HasDistinctEntities s en) (rows_of f.sections) → Every HasPlacesOnce (population_of s d en f)
 
--- each instance is one that another is led to
+-- Each instance of `js` is the image of one of `is`.
 abbrev pub IsOnto : List Instance → List Instance → (ℕ → ℕ) → Type 0
 IsOnto is js h =
     (z : Instance) → Among z js
     → (y : ℕ) × (x : Instance) × (instance_at is y ≡ Some x) × (instance_at js (h y) ≡ Some z)
 
--- h leads nothing else to where it leads an instance on a side of one of these inverse attributes
+-- If `z` is on a side of one of these inverse attributes, `h` maps no other instance to the image
+-- of `z`.
 abbrev pub TellsSidesApart : List InverseAttribute → List Instance → (ℕ → ℕ) → Type 0
 TellsSidesApart inverses is h =
-    (y z : ℕ) → IsName is y → OneOf (IsInverseSide is z) inverses → h y ≡ h z → y ≡ z
+    (y z : ℕ) → IsInstanceName is y → OneOf (IsInverseSide is z) inverses → h y ≡ h z → y ≡ z
 
--- The values of inverse attributes are led along by a map that tells apart those on their sides.
+-- A map that distinguishes the instances on the sides of inverse attributes maps the values of
+-- these attributes.
 abbrev pub InverseValuesAreLed : Type 0
 InverseValuesAreLed = (inverses : List InverseAttribute) (is js : List Instance) (h : ℕ → ℕ)
     → IsDistinct (◌==◌) (names is) → IsDistinct (◌==◌) (names js) → IsLedTo is js h → IsOnto is js h
     → TellsSidesApart inverses is h → ReferrersAreLed inverses is js h
 
--- h leads nothing else to where it leads an instance of which one of these rules speaks
+-- If one of these uniqueness rules concerns `z`, `h` maps no other instance to the image of `z`.
 abbrev pub TellsKeysApart : List UniqueRule → List Instance → (ℕ → ℕ) → Type 0
 TellsKeysApart uniques is h =
-    (y z : ℕ) → IsName is y → OneOf (IsInKey is z) uniques → h y ≡ h z → y ≡ z
+    (y z : ℕ) → IsInstanceName is y → OneOf (IsInKey is z) uniques → h y ≡ h z → y ≡ z
 
--- An image by a map that tells apart what stands in keys breaks no uniqueness rule where no instance breaks one.
+-- If a map distinguishes the instances that uniqueness rules concern, and no instance breaks such a
+-- rule, then no instance of the image breaks one.
 abbrev pub KeysStayUnique : Type 0
 KeysStayUnique = (rules : Rules) (is js : List Instance) (h : ℕ → ℕ) → IsDistinct (◌==◌) (names js)
     → IsLedTo is js h → IsOnto is js h → TellsKeysApart rules.uniques is h
     → unique_findings rules is ≡ [] → unique_findings rules js ≡ []
 
--- .. and one that leads the values of inverse attributes along breaks none of their bounds where no instance breaks one.
+-- If a map maps the values of inverse attributes too, and no instance breaks their bounds, then no
+-- instance of the image breaks them.
 abbrev pub InverseBoundsStay : Type 0
 InverseBoundsStay = (rules : Rules) (is js : List Instance) (h : ℕ → ℕ) → IsKept rules.inverses is js h
     → IsOnto is js h → inverse_findings rules is ≡ [] → inverse_findings rules js ≡ []
 
--- A map that leads nothing else to where it leads a pinned instance tells both apart, whatever else is pinned.
+-- A map that maps no other instance to the image of a pinned one distinguishes the instances on the
+-- sides of inverse attributes, and those that uniqueness rules concern. More instances may be
+-- pinned than the rules require.
 abbrev pub PinsTellApart : Type 0
 PinsTellApart = (s : Schema) (d : Domain) (en : Entities) (rules : Rules) (chosen : List Name) (is : List Instance)
     (h : ℕ → ℕ) (pinned : ℕ → Bool) → IsClosed is
@@ -95,15 +103,15 @@ PinsTellApart = (s : Schema) (d : Domain) (en : Entities) (rules : Rules) (chose
     → ((y z : ℕ) → Among y (names is) → Among z (names is) → IsTrue (pinned z) → h y ≡ h z → y ≡ z)
     → TellsSidesApart rules.inverses is h × TellsKeysApart rules.uniques is h
 
--- In an image an expression has the value that it had, references led along.
+-- In an image an expression has its former value, with references mapped.
 abbrev pub ImagesKeepMeanings : Type 0
 ImagesKeepMeanings = (s : Schema) (d : Domain) (en : Entities) (inverses : List InverseAttribute)
     (attributes : Attributes) → AreAttributes s inverses attributes
     → (is js : List Instance) (h : ℕ → ℕ) → IsKept inverses is js h
-    → (me you : Datum) → Alike (Leads is h) me you → (x : Tree)
-    → Alike (Leads is h) (meaning s d en attributes is me x) (meaning s d en attributes js you x)
+    → (me you : Datum) → Alike (LeadsBy is h) me you → (x : Tree)
+    → Alike (LeadsBy is h) (meaning s d en attributes is me x) (meaning s d en attributes js you x)
 
--- So each rule says of an instance what it says of the one that it is led to ..
+-- A domain rule has the same outcome at an instance and at its image.
 abbrev pub ImagesKeepRules : Type 0
 ImagesKeepRules = (s : Schema) (d : Domain) (en : Entities) (inverses : List InverseAttribute)
     (attributes : Attributes) → AreAttributes s inverses attributes
@@ -111,15 +119,15 @@ ImagesKeepRules = (s : Schema) (d : Domain) (en : Entities) (inverses : List Inv
     → (y : ℕ) (x z : Instance) → instance_at is y ≡ Some x → instance_at js (h y) ≡ Some z → (r : DomainRule)
     → outcome s d en attributes is x r ≡ outcome s d en attributes js z r
 
--- .. and an image breaks no rule where no instance breaks one.
+-- If no instance breaks a domain rule, no instance of an image breaks one.
 abbrev pub NoBreachInImages : Type 0
 NoBreachInImages = (s : Schema) (d : Domain) (en : Entities) (inverses : List InverseAttribute)
     (attributes : Attributes) → AreAttributes s inverses attributes
     → (rules : List DomainRule) (is js : List Instance) (h : ℕ → ℕ) → IsKept inverses is js h → IsOnto is js h
     → rule_findings s d en attributes is rules ≡ [] → rule_findings s d en attributes js rules ≡ []
 
--- Together: an image that respects pins breaks no rule, of uniqueness, of inverse attributes or of a domain, where no
--- instance breaks one.
+-- If no instance breaks a uniqueness rule, an inverse attribute's bounds or a domain rule, then no
+-- instance of an image that respects pins breaks one.
 abbrev pub ImagesBreakNoRule : Type 0
 ImagesBreakNoRule = (s : Schema) (d : Domain) (en : Entities) (rules : Rules) (chosen : List Name)
     (attributes : Attributes) → AreAttributes s rules.inverses attributes → (domain_rules : List DomainRule)
@@ -132,14 +140,17 @@ ImagesBreakNoRule = (s : Schema) (d : Domain) (en : Entities) (rules : Rules) (c
     → (unique_findings rules js ≡ []) × (inverse_findings rules js ≡ [])
     × (rule_findings s d en attributes js domain_rules ≡ [])
 
--- a rule says p of a value of SELF for which it is tried at an instance
+-- `self` is one of the values of SELF for which the rule is evaluated at the instance, and the rule
+-- is `p` for it.
 abbrev pub SaysOf : Schema → Domain → Entities → Attributes → List Instance → Instance → DomainRule → Datum → Logical
     → Type 0
 SaysOf s d en attributes is x r self p =
     Among self (selves s d en attributes x r.holder) × (says (meaning s d en attributes is self r.condition) ≡ p)
 
--- At an instance a rule is FALSE exactly where it says FALSE of one of its values, UNKNOWN exactly where it says FALSE of
--- none and doesn't say TRUE of one, and TRUE exactly where it says TRUE of all.
+-- At an instance a rule is
+-- - FALSE exactly if it is FALSE for one of the values of SELF;
+-- - UNKNOWN exactly if it is FALSE for none of them and isn't TRUE for one;
+-- - TRUE exactly if it is TRUE for all of them.
 abbrev pub OutcomesAreLeast : Type 0
 OutcomesAreLeast = (s : Schema) (d : Domain) (en : Entities) (attributes : Attributes) (is : List Instance)
     (x : Instance) (r : DomainRule)
@@ -150,32 +161,34 @@ OutcomesAreLeast = (s : Schema) (d : Domain) (en : Entities) (attributes : Attri
     × ((outcome s d en attributes is x r ≡ True)
     ↔ ((self : Datum) (p : Logical) → SaysOf s d en attributes is x r self p → p ≡ True))
 
--- There is no finding exactly where no rule is FALSE at an instance.
+-- There is no finding of domain rules exactly if no rule is FALSE at an instance.
 abbrev pub NoFindingExactlyWhereNoRuleIsFalse : Type 0
 NoFindingExactlyWhereNoRuleIsFalse = (s : Schema) (d : Domain) (en : Entities) (attributes : Attributes)
     (is : List Instance) (rules : List DomainRule)
     → (rule_findings s d en attributes is rules ≡ [])
     ↔ ((x : Instance) → Among x is → (r : DomainRule) → Among r rules → outcome s d en attributes is x r ≢ False)
 
--- a derived attribute that isn't set aside has a rank below n
+-- The formula exists, and its rank is below `n`.
 abbrev pub is_below : ℕ → Option Formula → Bool
 is_below n None = false
 is_below n (Some f) = nat_lt f.rank n
 
--- the values of the derived attributes of ranks below n; others have none
+-- The values of the derived attributes with a rank below `n`; all others are indeterminate.
 abbrev pub lesser_values : Schema → Domain → Entities → Attributes → List Instance → ℕ → ℕ → Derivation → Datum
 lesser_values s d en attributes is n y e =
     if is_below n (attributes.formula e) then derived_value s d en attributes is y e else indeterminate
 
--- A derived attribute that isn't set aside has at an instance the value of its expression, with that instance for SELF,
--- where derived attributes of lesser ranks have theirs.
+-- At an instance a derived attribute that isn't set aside has the value of its expression, with the
+-- instance for SELF. In that expression the derived attributes of lesser rank have their values,
+-- and all others are indeterminate.
 abbrev pub DerivedAreTheirExpressions : Type 0
 DerivedAreTheirExpressions = (s : Schema) (d : Domain) (en : Entities) (attributes : Attributes) (is : List Instance)
     (e : Derivation) (f : Formula) → attributes.formula e ≡ Some f → (y : ℕ)
     → derived_value s d en attributes is y e
     ≡ means (setting s d en attributes is (lesser_values s d en attributes is f.rank)) [] (instance y) f.expression
 
--- The element of a LIST at an index is that at this place, counted from 1, if there are so many.
+-- Indexing a LIST gives the element at that position, counted from 1, if any, otherwise
+-- indeterminate.
 abbrev pub ElementsOfListsAreInOrder : Type 0
 ElementsOfListsAreInOrder = (ds : Data) (i : ℕ) → suc i < 2 ^ 63
     → indexed (aggregate list ds) (number (whole_units (pos (suc i)))) ≡ or_this (element_at i ds) indeterminate

@@ -9,39 +9,40 @@ use Rattle.conformance.specs.Entities.{Entities, AreEntities}
 use Rattle.conformance.specs.Findings.{is_of_schema, findings}
 use Rattle.conformance.specs.Populations.{Instance, population_of}
 use Rattle.conformance.specs.Conforming.{PopulationConforms}
-use Rattle.conformance.specs.Images.{KeepsInstanceApart, IsImage}
-use Rattle.conformance.specs.Rewritten.{IsRewritten}
-use Rattle.conformance.specs.Standing.{StandsInBag, StandsInUnique}
-use Rattle.conformance.specs.SpeltRecords.{IsRowSpelt}
+use Rattle.conformance.specs.Images.{KeepsInstanceApart, IsTypedImage}
+use Rattle.conformance.specs.RewrittenFiles.{IsRewritten}
+use Rattle.conformance.specs.CollectionMembers.{StandsInBag, StandsInUnique}
+use Rattle.conformance.specs.RecordSpellings.{IsRowSpelt}
 
--- the functions of a resolved schema
+-- These functions are the meaning of the data types and entities of a schema whose names are
+-- resolved.
 pub record AreOf (s : Schema) (d : Domain) (en : Entities) : Type 0 where
   pub resolved : IsResolved s
   pub domain : IsDomain s d
   pub entities : AreEntities s en
 
--- There are no findings of a file exactly where it names the schema, its records are spelt as their entities ask, and
--- its population conforms.
+-- A file has no findings exactly if it names the schema, its records are spelled as their entities
+-- require, and its population conforms.
 abbrev pub NoFindingsExactlyWhereItConforms : Type 0
 NoFindingsExactlyWhereItConforms = (s : Schema) (d : Domain) (en : Entities) → AreOf s d en → (f : File)
     → (findings s d en f ≡ [])
     ↔ ((is_of_schema s f ≡ true) × Every (IsRowSpelt s d en) (rows_of f.sections)
     × PopulationConforms s d en (population_of s d en f))
 
--- Where what stands in SETs, BAGs, or what is OF UNIQUE among the values of i is pinned, a map that leads no two
--- pinned instances to one keeps the elements of these values apart.
+-- If the instances that occur in SETs, BAGs, or what is OF UNIQUE among the values of `i` are
+-- pinned, a map that maps no two pinned instances to one keeps the elements of these values apart.
 abbrev pub KeepsApartWhatStandsTogether : Type 0
 KeepsApartWhatStandsTogether = (s : Schema) (d : Domain) (en : Entities) (h : ℕ → ℕ) (pinned : ℕ → Bool)
     → ((y z : ℕ) → IsTrue (pinned y) → IsTrue (pinned z) → h y ≡ h z → y ≡ z) → (i : Instance)
     → ((y : ℕ) → StandsInBag s d en y i → IsTrue (pinned y))
     → ((y : ℕ) → StandsInUnique s d en y i → IsTrue (pinned y)) → KeepsInstanceApart s d en h i
 
--- An image of a population that conforms conforms.
+-- If a population conforms, so does each image of it.
 abbrev pub ImagesConform : Type 0
 ImagesConform = (s : Schema) (d : Domain) (en : Entities) (h : ℕ → ℕ) (is js : List Instance)
-    → IsImage s d en h is js → PopulationConforms s d en is → PopulationConforms s d en js
+    → IsTypedImage s d en h is js → PopulationConforms s d en is → PopulationConforms s d en js
 
--- There are no findings of a file that is written anew from one of which there are none.
+-- If a file has no findings, a file that is rewritten from it has none.
 abbrev pub NoFindingsInRewritten : Type 0
 NoFindingsInRewritten = (s : Schema) (d : Domain) (en : Entities) → AreOf s d en → (h : ℕ → ℕ) (f g : File)
     → IsRewritten s d en h f g → findings s d en f ≡ [] → findings s d en g ≡ []

@@ -1,11 +1,11 @@
-//! Findings: where an exchange structure breaks its schema.
+//! Findings: where and how an exchange structure breaks its schema.
 
-/// What is wrong (ISO 10303-21, 11; ISO 10303-11, 8 and 9).
+/// The kind of a finding (ISO 10303-21, 11; ISO 10303-11, 8 and 9).
 #[derive(Clone, Copy, Debug, PartialEq, Eq)]
 pub enum FindingKind {
-    /// The keyword of a record is no entity of the schema.
+    /// The keyword of a record isn't an entity of the schema.
     UnknownEntity,
-    /// A type of the instance that no other of its types is below is ABSTRACT.
+    /// A type of the instance that has no subtype among the instance's types is ABSTRACT.
     AbstractInstance,
     /// A supertype of an externally mapped instance has no partial record.
     MissingSupertype,
@@ -13,46 +13,47 @@ pub enum FindingKind {
     OneOfBroken,
     /// A record has more parameters than attributes, or fewer.
     ParameterCount,
-    /// The value is of another kind than its data type.
+    /// The value is of a kind that its data type doesn't allow.
     WrongKind,
-    /// `$` where the attribute isn't OPTIONAL.
+    /// `$` for a value that isn't OPTIONAL.
     MissingValue,
-    /// `*` where the attribute isn't derived, or a value other than `*` and `$` where it is.
+    /// `*` for a value that no type of the instance derives, or a value other than `*` and `$` for
+    /// one that a type derives.
     MisplacedStar,
-    /// A reference to an instance that isn't there.
+    /// A reference names no instance of the file.
     DanglingReference,
-    /// A reference to an instance of another entity.
+    /// A reference names an instance that isn't of the required entity.
     WrongEntity,
-    /// No item of the enumeration.
+    /// A word between dots isn't an item of the enumeration.
     UnknownElement,
     /// An aggregate has more elements than its bounds allow, or fewer.
     OutOfBounds,
-    /// A string has more characters than its width allows, or a binary more bits, or fewer where
-    /// the width is FIXED.
+    /// A string has more characters than its width allows, or a binary more bits. If the width is
+    /// FIXED, fewer are a finding too.
     TooWide,
     /// Two elements of a SET, or of an aggregate OF UNIQUE, are equal.
     NotDistinct,
-    /// A value in place of a SELECT that none of its items takes.
+    /// The value of a SELECT is of none of its items.
     NoSelectItem,
-    /// The structure names another schema.
+    /// The exchange structure names another schema.
     SchemaName,
 }
 
-/// Where something is wrong.
+/// Where in an exchange structure a finding is.
 #[derive(Clone, Copy, Debug, PartialEq, Eq)]
 pub enum Spot {
-    /// At this parameter of an instance's records, counted from 1 as they stand; 0 is the whole
-    /// instance.
+    /// This parameter of an instance, counted from 1 through all of its records as they are
+    /// written; 0 is the whole instance.
     Place(u64),
-    /// In the whole structure.
+    /// The exchange structure as a whole.
     Nothing,
 }
 
-/// Something that is wrong, and where.
+/// A finding: what is wrong, and where.
 #[derive(Clone, Copy, Debug, PartialEq, Eq)]
 pub struct Finding {
     pub kind: FindingKind,
-    /// The name of the instance; 0 where none is meant.
+    /// The name of the instance; 0 if the finding is that of the whole structure.
     pub instance: u64,
     pub spot: Spot,
 }

@@ -1,6 +1,7 @@
-//! What it is that an exchange structure conforms to a schema (ISO 10303-21, 11; ISO 10303-11): findings,
-//! the population, values that fit, uniqueness rules and inverse attributes, what expressions mean and which
-//! domain rules hold; and the laws of all that, which images of a population keep.
+//! When an exchange structure conforms to a schema (ISO 10303-21, 11; ISO 10303-11). The
+//! definitions cover findings, the population, values and their data types, uniqueness rules,
+//! inverse attributes, expressions, and domain rules. The laws say what images of a population keep
+//! of all that.
 #![tactic(auto)]
 
 pub mod finding;

@@ -10,30 +10,30 @@ pub fn rows_are_one()
     ensures { RowsAreOne }
 {}
 
-/// The names of rows are those of the instances that they are of, in order.
+/// The names of rows are those of their instances, in order.
 pub fn rows_have_names()
     ensures { RowsHaveNames }
 {}
 
-/// The names of the population of a file are those of the file's instances, in order; and where the
-/// file fits, none stands twice.
+/// The names of the population of a file are those of the file's instances, in order. If the file
+/// satisfies `FitsFile`, no name occurs twice.
 pub fn files_name_instances()
     ensures { FilesNameInstances }
 {}
 
-/// Each reference in a SET or BAG of a row names an instance that is pinned, by the weak rules and by
-/// all that pin more.
+/// Each reference in a row's SET or BAG of more than one value names a pinned instance, if at least
+/// the weak pins are pinned.
 pub fn bags_of_rows_are_pinned()
     ensures { BagsOfRowsArePinned }
 {}
 
-/// The rows of a population that conforms, where no two instances have one name, are a population:
-/// no name stands twice, and each reference names a row.
+/// If a population conforms and no two of its instances have the same name, its rows are a
+/// population: no name occurs twice, and each reference names a row.
 pub fn rows_of_conforming_are_populations()
     ensures { RowsOfConformingArePopulations }
 {}
 
-/// The rows of a file that fits, and of which there are no findings, are a population.
+/// If a file satisfies `FitsFile` and has no findings, its rows are a population.
 pub fn rows_of_files_are_populations()
     ensures { RowsOfFilesArePopulations }
 {}

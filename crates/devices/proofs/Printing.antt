@@ -3,7 +3,7 @@ use Rattle.std.proofs.Common.{◌≡◌, ℕ, Bool, true, false, List, [], ◌�
 use Rattle.std.specs.Prelude.{is_err}
 use Rattle.std.specs.Io.KnownBytes.{Appends}
 use Rattle.devices.specs.declared.device.WriteFault.{WriteFault}
-use Rattle.devices.specs.Prints.{Printing, fresh, Sends, Cut, Whole, Prints, Finishes, Answers}
+use Rattle.devices.specs.steps.Prints.{Printing, fresh, Sends, Cut, Whole, Prints, Finishes, Answers}
 use Rattle.devices.specs.Emits.{Emits, EmitsFront}
 use Rattle.devices.proofs.Sending.{sends_join, sends_cut, sends_kept}
 

@@ -3,7 +3,7 @@ use Rattle.std.proofs.Common.{◌≡◌, ℕ, ◌+◌, ◌-◌, ◌^◌, ◌<◌
 use Rattle.std.specs.Io.KnownBytes.{Appends}
 use Rattle.std.proofs.KnownBytes.{Appends-nil, Appends-trans}
 use Rattle.std.proofs.lemmas.List.{take-append-drop, length-take-le}
-use Rattle.devices.specs.Prints.{Sends, counted}
+use Rattle.devices.specs.steps.Prints.{Sends, counted}
 
 counted_grown : (n k m : ℕ) (u v : List ℕ) → n < 2 ^ 64 → m ≡ counted n u → k ≡ length v
     → min (m + k) (2 ^ 64 - 1) ≡ counted n (u ++ v)

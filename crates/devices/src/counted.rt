@@ -1,4 +1,4 @@
-//! Readers and writers of std as devices.
+//! Readers and writers of `std` as sources and sinks.
 
 ghost use Rattle.std.specs.Prelude.{◌≡◌, false};
 
@@ -13,7 +13,7 @@ pub struct Counted<T> {
 }
 
 impl<T> Counted<T> {
-    /// The reader or writer, which has not failed.
+    /// Wraps a reader or writer that has not failed.
     pub fn new(inner: T) -> Counted<T>
         ensures whole { result.inner ≡ inner }
         ensures fresh { result.failed ≡ false }
@@ -24,7 +24,7 @@ impl<T> Counted<T> {
         }
     }
 
-    /// The reader or writer itself.
+    /// Returns the reader or writer itself.
     pub fn into_inner(self) -> T
         ensures { result ≡ self.inner }
     {
@@ -37,7 +37,11 @@ impl<R: Read> Source for Counted<R> {
 
     ghost has_failed = { λ s. s.failed };
 
-    /// One read. `Failed` comes where the read answers an error, an interruption among them.
+    /// Calls `read` once.
+    ///
+    /// # Errors
+    ///
+    /// - `Failed` if `read` returns an error, including an interruption
     fn take(&mut self, buffer: &mut [u8]) -> Result<usize, Failed> {
         match self.inner.read(buffer) {
             Ok(count) => Ok(count),
@@ -58,8 +62,12 @@ impl<W: Write> Sink for Counted<W> {
 
     ghost has_failed = { λ s. s.failed };
 
-    /// One write. `Failed` comes where the write answers an error, an interruption among them, and
-    /// where it takes no byte of some.
+    /// Calls `write` once.
+    ///
+    /// # Errors
+    ///
+    /// - `Failed` if `write` returns an error, including an interruption
+    /// - `Failed` if `write` accepts none of one or more bytes
     fn put(&mut self, bytes: &[u8]) -> Result<usize, Failed> {
         match self.inner.write(bytes) {
             Ok(count) if count > 0 || bytes.is_empty() => Ok(count),

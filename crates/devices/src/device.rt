@@ -1,4 +1,4 @@
-//! What bytes come from, and what they go to.
+//! Sources and sinks of bytes, and their errors.
 
 ghost use Rattle.std.specs.Prelude.{
   ◌≡◌,
@@ -20,32 +20,36 @@ ghost use Rattle.std.specs.Io.KnownBytes.{WriteAppends, ReadConsumes};
 
 use thiserror::Error;
 
-/// A device failed.
+/// The error of a device that failed.
 #[derive(Clone, Copy, Debug, PartialEq, Eq, Error)]
 #[error("the device failed")]
 pub struct Failed;
 
-/// A device failed while a text was written to it: how many bytes of the text went out, as far as
-/// 2^64 - 1.
+/// The error of a device that failed during writing, with the number of bytes written before, at
+/// most 2^64 - 1.
 #[derive(Clone, Copy, Debug, PartialEq, Eq, Error)]
 #[error("the device failed after {written} bytes")]
 pub struct WriteFault {
     pub written: u64,
 }
 
-/// What bytes come from.
+/// A source of bytes.
 pub trait Source {
-    // the bytes that are still to come, where they are told
+    // the bytes still to come, if the source reveals them
     ghost to_come: { Self → Option (List ℕ) } = { λ _. None };
 
-    // whether each call fails, or none does, where that is told
+    // whether every call fails (`true`) or none does (`false`), if the source reveals that
     ghost fails: { Self → Option Bool } = { λ _. None };
 
     // whether a call has failed
     ghost has_failed: { Self → Bool };
 
-    /// Fills the front of the buffer, and says how much of it. None of a buffer that has room is
-    /// the end. `Failed` comes where the device fails; nothing is taken then.
+    /// Writes the next bytes to the start of `buffer`, and returns how many. 0 for a non-empty
+    /// buffer means the end.
+    ///
+    /// # Errors
+    ///
+    /// - `Failed` if the device fails; no byte is consumed then
     fn take(&mut self, buffer: &mut [u8]) -> Result<usize, Failed>
         ensures count { IfOk result (λ n. n ≤ length buffer.new) }
         ensures bytes { ReadConsumes (to_come self.old) (to_come self.new) result buffer.new }
@@ -59,16 +63,20 @@ pub trait Source {
         ensures { result ≡ has_failed self.now };
 }
 
-/// What bytes go to.
+/// A sink of bytes.
 pub trait Sink {
-    // the bytes that it holds, where they are told
+    // the bytes that the sink holds, if it reveals them
     ghost held: { Self → Option (List ℕ) } = { λ _. None };
 
     // whether a call has failed
     ghost has_failed: { Self → Bool };
 
-    /// Takes a front of the bytes, and says how many: none only of none.
-    /// `Failed` comes where the device fails; nothing is taken then.
+    /// Writes a prefix of `bytes`, and returns its length. The prefix is empty only if `bytes` is
+    /// empty.
+    ///
+    /// # Errors
+    ///
+    /// - `Failed` if the device fails; no byte is written then
     fn put(&mut self, bytes: &[u8]) -> Result<usize, Failed>
         ensures count { IfOk result (λ n. n ≤ length bytes.now) }
         ensures some { IfOk result (λ n. 0 < length bytes.now → 0 < n) }

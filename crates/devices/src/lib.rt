@@ -1,5 +1,5 @@
-//! What bytes come from and go to: readers and writers that remember a failure, and a printer that
-//! counts.
+//! Sources and sinks of bytes: readers and writers that remember a failure, and a buffered printer
+//! that counts the bytes that it wrote.
 #![tactic(auto)]
 
 pub mod counted;

@@ -5,7 +5,7 @@ ghost use Rattle.std.specs.Prelude.{Some, false};
 use crate::device::{Failed, Source};
 use std::io::Read;
 
-/// The bytes of a slice, in memory: no call fails.
+/// A slice of bytes as a source. No call fails.
 impl Source for &[u8] {
     ghost to_come = { λ bytes. Some bytes.now };
 
@@ -13,7 +13,7 @@ impl Source for &[u8] {
 
     ghost has_failed = { λ _. false };
 
-    /// As many of the bytes as there is room for.
+    /// Copies as many bytes as fit into the buffer.
     fn take(&mut self, buffer: &mut [u8]) -> Result<usize, Failed> {
         match self.read(buffer) {
             Ok(count) => Ok(count),

@@ -1,4 +1,4 @@
-//! Bytes on their way to a sink, where a failure is remembered.
+//! A buffered printer that remembers a failure of its sink.
 
 ghost use Rattle.std.specs.Prelude.{
   ◌≡◌,
@@ -20,15 +20,15 @@ ghost use Rattle.std.specs.Prelude.{
   is_err,
   IsTrue,
 };
-ghost use Rattle.devices.specs.Prints.{Printing, fresh, Sends, Prints, Finishes};
+ghost use Rattle.devices.specs.steps.Prints.{Printing, fresh, Sends, Prints, Finishes};
 
 use crate::device::{Failed, Sink, WriteFault};
 use std::marker::Model;
 
 const ROOM: usize = 65536;
 
-/// Bytes on their way to a sink: those that wait, and how many went out. Once the sink fails it has
-/// stopped, and prints nothing from then on.
+/// A buffer of bytes for a sink, and the number of bytes written to the sink so far. Once the sink
+/// fails, the printer has stopped, and prints nothing from then on.
 #[derive(Drop)]
 pub struct Printer {
     bytes: [u8; ROOM],
@@ -39,7 +39,7 @@ pub struct Printer {
 
 impl Model for Printer {
     ghost use Rattle.std.specs.Prelude.{◌≤◌, take};
-    ghost use Rattle.devices.specs.Prints.{Printing};
+    ghost use Rattle.devices.specs.steps.Prints.{Printing};
 
     ghost Value = { Printing };
 
@@ -52,7 +52,7 @@ impl Model for Printer {
     ghost invariant = { λ p. p.len ≤ 65536 };
 }
 
-/// Sends the bytes piece by piece, and counts those that went out.
+/// Writes `bytes` to `out` piece by piece, and adds the number of bytes written to `written`.
 fn send<S: Sink>(out: &mut S, written: &mut u64, bytes: &[u8]) -> Result<(), Failed>
     ensures sent { MatchResult result
         (λ _. Sends (S.held out.old) (S.held out.new) [] written.old written.new bytes.now [])
@@ -72,7 +72,7 @@ fn send<S: Sink>(out: &mut S, written: &mut u64, bytes: &[u8]) -> Result<(), Fai
 }
 
 impl Printer {
-    /// A printer that was given nothing yet.
+    /// Returns a printer with an empty buffer, which has written nothing.
     pub fn new() -> Printer
         ensures { result ≡ fresh }
     {
@@ -84,7 +84,7 @@ impl Printer {
         }
     }
 
-    /// Sends what waits.
+    /// Writes the buffer to `out`.
     pub fn flush<S: Sink>(&mut self, out: &mut S)
         ensures prints { Prints S.held S.has_failed out.old out.new self.old self.new [] }
         ensures nothing_waits { self.new.stopped ≡ false → self.new.waiting ≡ [] }
@@ -98,14 +98,14 @@ impl Printer {
         }
     }
 
-    // Whether so many bytes more can wait.
+    // Whether `count` more bytes fit into the buffer.
     fn has_room(&self, count: usize) -> bool
         ensures { IsTrue result ↔ (length self.now.waiting + count ≤ 65536) }
     {
         count <= ROOM - self.len
     }
 
-    // The bytes wait.
+    // Appends the bytes to the buffer.
     fn keep(&mut self, bytes: &[u8])
         requires { length self.old.waiting + length bytes.now ≤ 65536 }
         ensures { self.new ≡ record self.old { waiting = self.old.waiting ++ bytes.now } }
@@ -115,7 +115,7 @@ impl Printer {
         self.len = end;
     }
 
-    // Sends the bytes, where none wait.
+    // Writes the bytes to `out` at once. The buffer must be empty, unless the printer has stopped.
     fn pass<S: Sink>(&mut self, out: &mut S, bytes: &[u8])
         requires { self.old.stopped ≡ false → self.old.waiting ≡ [] }
         ensures { Prints S.held S.has_failed out.old out.new self.old self.new bytes.now }
@@ -125,7 +125,8 @@ impl Printer {
         }
     }
 
-    // Sends what waits, and then the bytes wait, or go out at once where they are many.
+    // Flushes the buffer. Then it buffers the bytes if they are fewer than `ROOM`, otherwise it
+    // writes them at once.
     fn make_way<S: Sink>(&mut self, out: &mut S, bytes: &[u8])
         ensures { Prints S.held S.has_failed out.old out.new self.old self.new bytes.now }
     {
@@ -137,7 +138,7 @@ impl Printer {
         }
     }
 
-    /// Prints the bytes: they wait for more, or go out.
+    /// Prints the bytes: buffers them, or writes them to `out`.
     pub fn print<S: Sink>(&mut self, out: &mut S, bytes: &[u8])
         ensures { Prints S.held S.has_failed out.old out.new self.old self.new bytes.now }
     {
@@ -166,8 +167,11 @@ impl Printer {
         }
     }
 
-    /// Sends what waits. `WriteFault` comes where the sink failed, now or before, with the count of
-    /// the bytes that went out.
+    /// Writes the buffer to `out`.
+    ///
+    /// # Errors
+    ///
+    /// - `WriteFault` if the sink fails or failed before, with the number of bytes written
     pub fn finish<S: Sink>(mut self, out: &mut S) -> Result<(), WriteFault>
         ensures { Finishes S.held S.has_failed out.old out.new self result }
     {

@@ -1,7 +1,7 @@
 -- Attributes, token by token.
 use Rattle.std.proofs.Common.{◌≡◌, ℕ, true, false, Some, None, List, [], ◌∷◌, ◌++◌, map, Result, Ok, Err, MatchResult, length, ◌<◌, refl, sym, ap, ◌∙◌, append_assoc, arith}
-use Rattle.express_lexis.specs.declared.marks.Mark.TheVariants as marks
-use Rattle.express_lexis.specs.Reading.{Reading, left}
+use Rattle.express_lexer.specs.declared.marks.Mark.TheVariants as marks
+use Rattle.express_lexer.specs.Reading.{Reading, left}
 use Rattle.express_syntax.specs.declared.keyword.Keyword.{Keyword}
 use Rattle.express_syntax.specs.declared.keyword.Keyword.TheVariants as keywords
 use Rattle.express_syntax.specs.declared.lexeme.Lexeme.{Lexeme}
@@ -12,14 +12,14 @@ use Rattle.express_syntax.specs.declared.fault.SyntaxFault.{SyntaxFault}
 use Rattle.express_syntax.specs.declared.fault.SyntaxFault.TheVariants as faults
 use Rattle.express_syntax.specs.declared.tree.Attribute as code
 use Rattle.express_syntax.specs.Schemas.{Attribute, own}
-use Rattle.express_syntax.specs.Written.{with_commas, words_of_attribute, words_of_unique}
+use Rattle.express_syntax.specs.WrittenSchemas.{with_commas, words_of_attribute, words_of_unique}
 use Rattle.express_syntax.specs.Profile.{IsFilled}
 use Rattle.express_syntax.specs.Views.{attribute_of}
 use Rattle.express_syntax.specs.Texts.{Lookahead, token, LocatedToken, Shows}
-use Rattle.express_syntax.specs.Predict.{Symbol, AnAttribute, Explicits, OptionalDataType, Uniques, UniqueNamed, DataTypeThen, semicolon, BoundsOrOf, Id, Just, Inverted, Holder, redeclared_symbols, is_mark, is_keyword, next, refused}
-use Rattle.express_syntax.specs.Predict as predict
-use Rattle.express_syntax.specs.Steps.{Passes, StopsIn}
-use Rattle.express_entities.specs.Lists.{IsListed, Continues, ListsOn, UniqueOn}
+use Rattle.express_syntax.specs.steps.Predict.{Symbol, AnAttribute, Explicits, OptionalDataType, Uniques, UniqueNamed, DataTypeThen, semicolon, BoundsOrOf, Id, Just, Inverted, Holder, redeclared_symbols, is_mark, is_keyword, next, refused}
+use Rattle.express_syntax.specs.steps.Predict as predict
+use Rattle.express_syntax.specs.steps.Steps.{Passes, StopsIn}
+use Rattle.express_entities.specs.steps.Lists.{IsListed, Continues, ListsOn, UniqueOn}
 use Rattle.express_syntax.proofs.Looking.{mark_met, keyword_met, stops_refused, shown_less, tokens_less}
 use Rattle.express_syntax.proofs.Taking.{passes_as, passes_join, passes_more, passes_token, passes_taken, passes_then, passes_first, passes_other, stops_behind, stops_first, stops_here, stops_as}
 use Rattle.express_syntax.proofs.Lists.{commas_push, filled_push}
@@ -57,7 +57,7 @@ continues_on y first old ws s here us mid t new listed h is a shows =
           (stops_first e (y ∷ []) t shows g));
     }
 
--- .. that isn't there
+-- a comma without an attribute after it
 pub continues_attribute : (e : SyntaxFault) (y : Symbol) (first : LocatedToken) (old : Reading) (ws : List Word)
     (s : LocatedToken) (here : Reading) → IsListed y → Continues y first old ws s here
     → s.lookahead ≡ token (mark marks.Comma) → StopsIn e (AnAttribute ∷ []) [] here → StopsIn e (y ∷ []) (first ∷ [])
@@ -66,7 +66,7 @@ continues_attribute e y first old ws s here listed h is g =
     h.stops e (stops_behind e (AnAttribute ∷ []) (y ∷ []) (passes_taken y (AnAttribute ∷ y ∷ []) (mark marks.Comma) s
     here is listed) g)
 
--- .. with nothing behind it
+-- a comma and an attribute without a token after them
 pub continues_end : (e : SyntaxFault) (y : Symbol) (first : LocatedToken) (old : Reading) (ws : List Word)
     (s : LocatedToken) (here : Reading) (us : List Word) (mid : Reading) → IsListed y → Continues y first old ws s here
     → s.lookahead ≡ token (mark marks.Comma) → Passes (AnAttribute ∷ []) [] [] us here mid → StopsIn e (y ∷ []) [] mid
@@ -80,7 +80,7 @@ continues_end e y first old ws s here us mid listed h is a g =
 pub lists_first : (y : Symbol) (a : Attribute) (s : LocatedToken) (here : Reading) → ListsOn y a s here (a ∷ []) s here
 lists_first y a s here = record { filled = tt; further = []; words = refl; goes_on = continues_here y s here }
 
--- .. and another
+-- the list with another attribute
 pub lists_next : (y : Symbol) (a : Attribute) (first : LocatedToken) (old : Reading) (list : List Attribute)
     (s : LocatedToken) (here : Reading) (o : Attribute) (mid : Reading) (t : LocatedToken) (new : Reading) → IsListed y
     → ListsOn y a first old list s here
@@ -95,7 +95,7 @@ lists_next y a first old list s here o mid t new listed h is p shows = record {
       (mark_met marks.Comma s.lookahead is) p shows;
 }
 
--- .. that isn't there
+-- a comma in the list without an attribute after it
 pub lists_stop : (e : SyntaxFault) (y : Symbol) (a : Attribute) (first : LocatedToken) (old : Reading)
     (list : List Attribute) (s : LocatedToken) (here : Reading) → IsListed y → ListsOn y a first old list s here
     → is_mark marks.Comma s.lookahead ≡ true → StopsIn e (AnAttribute ∷ []) [] here → StopsIn e (y ∷ []) (first ∷ [])
@@ -103,7 +103,7 @@ pub lists_stop : (e : SyntaxFault) (y : Symbol) (a : Attribute) (first : Located
 lists_stop e y a first old list s here listed h is g = continues_attribute e y first old h.further s here listed
     h.goes_on (mark_met marks.Comma s.lookahead is) g
 
--- .. with nothing behind it
+-- a comma and an attribute in the list without a token after them
 pub lists_end : (e : SyntaxFault) (y : Symbol) (a : Attribute) (first : LocatedToken) (old : Reading)
     (list : List Attribute) (s : LocatedToken) (here : Reading) (o : Attribute) (mid : Reading) → IsListed y
     → ListsOn y a first old list s here
@@ -199,7 +199,7 @@ pub unique_behind : {A : Type 0} (view : A → List Attribute) (a : Attribute) (
 unique_behind view a s old mid (Ok l) new shows h = (h.filled, h.further, h.words, passes_first s old shows h.passes)
 unique_behind view a s old mid (Err e) new shows h = stops_first e (Uniques ∷ []) s shows h
 
--- .. with a label
+-- a uniqueness rule with a label
 pub labelled_passes : (n : List ℕ) (a : Attribute) (s : LocatedToken) (old mid : Reading) (list : List Attribute)
     (ws : List Word) (next : Reading) (new : Reading) → Shows old s mid → is_mark marks.Colon s.lookahead ≡ true
     → Passes (AnAttribute ∷ []) [] [] (words_of_attribute a) mid next
@@ -218,7 +218,7 @@ labelled_passes n a s old mid list ws next new shows colon h e g = (
       (mark_met marks.Colon s.lookahead colon) refl) (passes_then h g),
 )
 
--- .. without one, where its first attribute is a name
+-- a uniqueness rule without a label, whose first attribute is a name
 pub named_passes : (n : List ℕ) (s : LocatedToken) (old mid : Reading) (list : List Attribute) (new : Reading)
     → Shows old s mid → is_mark marks.Colon s.lookahead ≡ false → (h : UniqueOn (own n) s mid list new)
     → Passes (UniqueNamed ∷ []) [] [] h.further old new

@@ -2,9 +2,9 @@
 use Rattle.std.proofs.Common.{◌≡◌, ◌<◌, true, false, List, [], ◌∷◌, ◌++◌, length, map, Option, Ok, Err, refl, sym, ap, ◌∙◌, subst, append_assoc, append-nil, arith}
 use Rattle.std.proofs.lemmas.Bool.{false≢true}
 use Rattle.parsing.specs.Tables.{lookaheads}
-use Rattle.express_lexis.specs.declared.marks.Mark.TheVariants as marks
+use Rattle.express_lexer.specs.declared.marks.Mark.TheVariants as marks
 use Rattle.step_literals.specs.declared.literal.Word as literal
-use Rattle.express_lexis.specs.Reading.{Reading, left}
+use Rattle.express_lexer.specs.Reading.{Reading, left}
 use Rattle.express_syntax.specs.declared.keyword.Keyword.{Keyword}
 use Rattle.express_syntax.specs.declared.keyword.Keyword.TheVariants as keywords
 use Rattle.express_syntax.specs.declared.lexeme.Lexeme.{Lexeme}
@@ -22,12 +22,12 @@ use Rattle.express_syntax.specs.declared.tree.Attribute as code
 use Rattle.express_syntax.specs.declared.tree.Attribute.TheVariants as attributes
 use Rattle.express_syntax.specs.Schemas.{Attribute, own, redeclared, Explicit, Derived, Inverse, Unique, Rule}
 use Rattle.express_syntax.specs.Views.{attribute_of}
-use Rattle.express_syntax.specs.Written.{joined, words_of_attribute, words_of_clause, words_of_explicit, words_of_derived, words_of_inverse, words_of_unique, words_of_rule}
+use Rattle.express_syntax.specs.WrittenSchemas.{concatenated, words_of_attribute, words_of_clause, words_of_explicit, words_of_derived, words_of_inverse, words_of_unique, words_of_rule}
 use Rattle.express_syntax.specs.Profile.{FitsExplicit, FitsDerived, FitsInverse, FitsUnique}
 use Rattle.express_syntax.specs.Texts.{Lookahead, token, LocatedToken, Shows, ShowsAll}
-use Rattle.express_syntax.specs.Predict.{Symbol, Body, Clause, explicits, derived, inverses, uniques, behind_name, behind_attribute, redeclared_symbols, next, refused, is_keyword}
-use Rattle.express_entities.specs.EntityParts.{may_end, keyword_of, symbols_behind, behind_first, Begins, Stand, Ended, Clausal}
-use Rattle.express_syntax.specs.Steps.{StopsIn, Passes}
+use Rattle.express_syntax.specs.steps.Predict.{Symbol, Body, Clause, explicits, derived, inverses, uniques, behind_name, behind_attribute, redeclared_symbols, next, refused, is_keyword}
+use Rattle.express_entities.specs.steps.EntityParts.{may_end, keyword_of, symbols_behind, behind_first, Begins, Stand, Ended, Clausal}
+use Rattle.express_syntax.specs.steps.Steps.{StopsIn, Passes}
 use Rattle.express_syntax.proofs.Looking.{keyword_met, stops_refused, shown_less, tokens_less, passes_within}
 use Rattle.express_syntax.proofs.Taking.{passes_as, passes_join, passes_more, passes_token, stops_behind}
 use Rattle.express_syntax.proofs.Lists.{every_push, joined_push, map_push}
@@ -48,7 +48,7 @@ self_passes : (c : Clause) (s : LocatedToken) (old new : Reading) → Shows old 
 self_passes c s old new h e = passes_token (Body c) (redeclared_symbols ++ (behind_attribute c ++ Body c ∷ []))
     (keyword keywords.SelfWord) s old new h (keyword_met keywords.SelfWord s.lookahead e) refl
 
--- .. that is none
+-- a fault in an attribute after SELF
 pub self_stops : (e : SyntaxFault) (c : Clause) (s : LocatedToken) (old new : Reading) → Shows old s new
     → is_keyword keywords.SelfWord s.lookahead ≡ true → StopsIn e redeclared_symbols [] new → StopsIn e (Body c ∷ []) []
     old
@@ -60,7 +60,7 @@ behind_self : (c : Clause) (a : Attribute) (ws : List Word) → words_of_attribu
 behind_self c (own n) ws e = absurd cc
 behind_self c (redeclared n m) ws e = refl
 
--- .. that is read
+-- an attribute after SELF that is read
 pub self_done : (c : Clause) (a : code.Attribute) (s : LocatedToken) (old mid new : Reading) → Shows old s mid
     → is_keyword keywords.SelfWord s.lookahead ≡ true
     → ((ws : List Word) × (words_of_attribute (attribute_of a) ≡ keyword keywords.SelfWord ∷ ws)
@@ -78,7 +78,7 @@ pub name_begins : (c : Clause) (w : literal.Word) (s : LocatedToken) (old new : 
 name_begins c w s old new h e = passes_token (Body c) (behind_name c ++ Body c ∷ []) (name (capitals w)) s old new h e
     refl
 
--- .. stands
+-- a keyword that ends the clause
 pub boundary_begins : (c : Clause) (k : Keyword) (b : Boundary) (s : LocatedToken) (old new : Reading) → Shows old s new
     → s.lookahead ≡ token (keyword k) → (k ≡ keyword_of b) × (may_end c b ≡ true) → Begins c (starts.Boundary b) old new
 boundary_begins c k b s old new h e m = (
@@ -140,7 +140,7 @@ pub first_same : (c : Clause) (a : code.Attribute) → behind_name c ≡ behind_
 first_same c (attributes.Unqualified w) e = sym e
 first_same c (attributes.Redeclared n w) e = refl
 
--- .. of a clause
+-- one more item of a clause
 stand_more : {A : Type 0} (c : Clause) (Fit : A → Type 0) (write : A → List Word) (xs : List A) (x : A)
     (us : List Symbol) (u : List Word) (old here mid new : Reading) → Stand c Fit write xs old here
     → Passes (Body c ∷ []) (us ++ Body c ∷ []) [] u here mid
@@ -148,11 +148,11 @@ stand_more : {A : Type 0} (c : Clause) (Fit : A → Type 0) (write : A → List 
     new
 stand_more c Fit write xs x us u old here mid new h p g = record {
   fits = every_push Fit xs x h.fits g.0;
-  passes = passes_as (joined (map write (xs ++ x ∷ []))) (ap (λ l. joined (map write xs) ++ l) (sym g.2)
+  passes = passes_as (concatenated (map write (xs ++ x ∷ []))) (ap (λ l. concatenated (map write xs) ++ l) (sym g.2)
       ∙ sym (joined_push write xs x)) (passes_join h.passes (passes_join p (passes_more (Body c ∷ []) g.3)));
 }
 
--- .. in the program's values
+-- one more item of a clause, in the program's values
 pub stand_push : {M A : Type 0} (view : M → A) (c : Clause) (Fit : A → Type 0) (write : A → List Word) (ms ns : List M)
     (m : M) (a : code.Attribute) (us : List Symbol) (old here mid new : Reading) → ns ≡ ms ++ m ∷ []
     → us ≡ behind_first c (attribute_of a)
@@ -171,7 +171,7 @@ pub stand_stops_front : {A : Type 0} (e : SyntaxFault) (c : Clause) (Fit : A →
     → StopsIn e (Body c ∷ []) [] old
 stand_stops_front e c Fit write xs old here h g = stops_behind e (Body c ∷ []) [] h.passes g
 
--- .. or what is behind its first attribute does
+-- a fault after the first attribute of an item stops the clause
 pub stand_stops_item : {A : Type 0} (e : SyntaxFault) (c : Clause) (Fit : A → Type 0) (write : A → List Word)
     (xs : List A) (a : code.Attribute) (us : List Symbol) (old here mid : Reading)
     → us ≡ behind_first c (attribute_of a)
@@ -210,7 +210,7 @@ clausal_join us c k Fit write xs from to old here new h g =
     passes_as (us ++ words_of_clause k write xs ++ last) (append_assoc us (keyword (keyword_of from) ∷ []) g.behind
     ∙ ap (λ l. us ++ l) g.words ∙ sym (append_assoc us (words_of_clause k write xs) last)) (passes_join h g.passes)
 
--- .. and the last of them
+-- the rules, after what precedes their keyword
 rules_join : {ys : List Symbol} (us vs last : List Word) (from : Boundary) (old here new : Reading)
     → Passes ys (symbols_behind from) [] (us ++ keyword (keyword_of from) ∷ []) old here
     → (ws : List Word) × (keyword (keyword_of from) ∷ ws ≡ vs ++ last) × Passes (symbols_behind from) [] [] ws here new
@@ -223,39 +223,39 @@ rules_join us vs last from old here new h g =
 pub after_derived : {es : List Explicit} {ds : Option (List Derived)} {p q : Boundary} {old a b : Reading}
     → Ended explicits (FitsExplicit depth_limit) words_of_explicit es p old a → Clausal derived keywords.Derive
     (FitsDerived depth_limit) words_of_derived ds p q a b
-    → Passes (Body explicits ∷ []) (symbols_behind q) [] (joined (map words_of_explicit es)
+    → Passes (Body explicits ∷ []) (symbols_behind q) [] (concatenated (map words_of_explicit es)
     ++ words_of_clause keywords.Derive words_of_derived ds ++ keyword (keyword_of q) ∷ []) old b
-after_derived {es} {ds} {p} {q} {old} {a} {b} h g = clausal_join (joined (map words_of_explicit es)) derived
+after_derived {es} {ds} {p} {q} {old} {a} {b} h g = clausal_join (concatenated (map words_of_explicit es)) derived
     keywords.Derive (FitsDerived depth_limit) words_of_derived ds p q old a b h.passes g
 
--- .. up to the inverse attributes
+-- the clauses up to the inverse attributes
 pub after_inverses : {es : List Explicit} {ds : Option (List Derived)} {ns : Option (List Inverse)} {p q r : Boundary}
     {old a b c : Reading} → Ended explicits (FitsExplicit depth_limit) words_of_explicit es p old a
     → Clausal derived keywords.Derive (FitsDerived depth_limit) words_of_derived ds p q a b
     → Clausal inverses keywords.Inverse (FitsInverse depth_limit) words_of_inverse ns q r b c
-    → Passes (Body explicits ∷ []) (symbols_behind r) [] (joined (map words_of_explicit es)
+    → Passes (Body explicits ∷ []) (symbols_behind r) [] (concatenated (map words_of_explicit es)
     ++ words_of_clause keywords.Derive words_of_derived ds ++ words_of_clause keywords.Inverse words_of_inverse ns
     ++ keyword (keyword_of r) ∷ []) old c
 after_inverses {es} {ds} {ns} {p} {q} {r} {old} {a} {b} {c} h g k =
-    clausal_join (joined (map words_of_explicit es) ++ words_of_clause keywords.Derive words_of_derived ds) inverses
+    clausal_join (concatenated (map words_of_explicit es) ++ words_of_clause keywords.Derive words_of_derived ds) inverses
     keywords.Inverse (FitsInverse depth_limit) words_of_inverse ns q r old b c (after_derived h g) k
 
--- .. up to the uniqueness rules
+-- the clauses up to the uniqueness rules
 pub after_uniques : {es : List Explicit} {ds : Option (List Derived)} {ns : Option (List Inverse)}
     {us : Option (List Unique)} {p q r s : Boundary} {old a b c d : Reading}
     → Ended explicits (FitsExplicit depth_limit) words_of_explicit es p old a → Clausal derived keywords.Derive
     (FitsDerived depth_limit) words_of_derived ds p q a b → Clausal inverses keywords.Inverse (FitsInverse depth_limit)
     words_of_inverse ns q r b c → Clausal uniques keywords.Unique FitsUnique words_of_unique us r s c d
     → Passes (Body explicits ∷ []) (symbols_behind s) []
-    (joined (map words_of_explicit es) ++ words_of_clause keywords.Derive words_of_derived ds
+    (concatenated (map words_of_explicit es) ++ words_of_clause keywords.Derive words_of_derived ds
     ++ words_of_clause keywords.Inverse words_of_inverse ns ++ words_of_clause keywords.Unique words_of_unique us
     ++ keyword (keyword_of s) ∷ []) old d
 after_uniques {es} {ds} {ns} {us} {p} {q} {r} {s} {old} {a} {b} {c} {d} h g k j =
-    let before = joined (map words_of_explicit es) ++ words_of_clause keywords.Derive words_of_derived ds
+    let before = concatenated (map words_of_explicit es) ++ words_of_clause keywords.Derive words_of_derived ds
     ++ words_of_clause keywords.Inverse words_of_inverse ns in
     clausal_join before uniques keywords.Unique FitsUnique words_of_unique us r s old c d (after_inverses h g k) j
 
--- .. up to the end
+-- the clauses up to the end
 pub after_rules : {es : List Explicit} {ds : Option (List Derived)} {ns : Option (List Inverse)}
     {us : Option (List Unique)} (rs : Option (List Rule)) {p q r s : Boundary} {old a b c d new : Reading}
     → Ended explicits (FitsExplicit depth_limit) words_of_explicit es p old a → Clausal derived keywords.Derive
@@ -264,12 +264,12 @@ pub after_rules : {es : List Explicit} {ds : Option (List Derived)} {ns : Option
     → (ws : List Word) × (keyword (keyword_of s) ∷ ws ≡ words_of_clause keywords.Where words_of_rule rs
     ++ keyword keywords.EndEntity ∷ mark marks.Semicolon ∷ []) × Passes (symbols_behind s) [] [] ws d new
     → Passes (Body explicits ∷ []) [] []
-    (joined (map words_of_explicit es) ++ words_of_clause keywords.Derive words_of_derived ds
+    (concatenated (map words_of_explicit es) ++ words_of_clause keywords.Derive words_of_derived ds
     ++ words_of_clause keywords.Inverse words_of_inverse ns ++ words_of_clause keywords.Unique words_of_unique us
     ++ words_of_clause keywords.Where words_of_rule rs ++ keyword keywords.EndEntity ∷ mark marks.Semicolon ∷ [])
     old new
 after_rules {es} {ds} {ns} {us} rs {p} {q} {r} {s} {old} {a} {b} {c} {d} {new} h g k j l =
-    let before = joined (map words_of_explicit es) ++ words_of_clause keywords.Derive words_of_derived ds
+    let before = concatenated (map words_of_explicit es) ++ words_of_clause keywords.Derive words_of_derived ds
     ++ words_of_clause keywords.Inverse words_of_inverse ns ++ words_of_clause keywords.Unique words_of_unique us in
     rules_join before (words_of_clause keywords.Where words_of_rule rs) (keyword keywords.EndEntity
     ∷ mark marks.Semicolon ∷ []) s old d new (after_uniques h g k j) l

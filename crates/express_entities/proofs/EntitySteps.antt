@@ -1,7 +1,7 @@
 -- The head of an entity, token by token, and an entity put together.
 use Rattle.std.proofs.Common.{◌≡◌, ℕ, true, false, List, [], ◌∷◌, ◌++◌, map, Some, Result, Ok, Err, MatchResult, refl, sym, ap, ◌∙◌, append_assoc}
-use Rattle.express_lexis.specs.declared.marks.Mark.TheVariants as marks
-use Rattle.express_lexis.specs.Reading.{Reading}
+use Rattle.express_lexer.specs.declared.marks.Mark.TheVariants as marks
+use Rattle.express_lexer.specs.Reading.{Reading}
 use Rattle.express_syntax.specs.declared.keyword.Keyword.TheVariants as keywords
 use Rattle.express_syntax.specs.Words.{Word, keyword, name, mark}
 use Rattle.express_syntax.specs.Grammar.{depth_limit}
@@ -11,11 +11,11 @@ use Rattle.express_entities.specs.declared.clauses.Clauses.{Clauses}
 use Rattle.express_syntax.specs.Schemas.{Supertype, Entity}
 use Rattle.express_syntax.specs.Views.{if_some, names_of, supertype_of, explicit_of, derived_of, inverse_of, unique_of, rules_of}
 use Rattle.express_syntax.specs.Profile.{FitsEntity}
-use Rattle.express_syntax.specs.Written.{joined, words_of_names, words_of_clause, words_of_supertype, words_of_subtype, words_of_explicit, words_of_derived, words_of_inverse, words_of_unique, words_of_rule, words_of_entity}
+use Rattle.express_syntax.specs.WrittenSchemas.{concatenated, words_of_names, words_of_clause, words_of_supertype, words_of_subtype, words_of_explicit, words_of_derived, words_of_inverse, words_of_unique, words_of_rule, words_of_entity}
 use Rattle.express_syntax.specs.Texts.{Lookahead, token, LocatedToken, Shows}
-use Rattle.express_syntax.specs.Predict.{Symbol, Just, Say, Id, Running, in_parentheses, Head, Super, SuperOf, Sub, Body, explicits, names_symbols, next_sub, next_super, next_super_of, next_head, is_keyword}
-use Rattle.express_entities.specs.EntityParts.{FitsHead, words_of_types, words_of_beginning, FitsClauses, words_of_clauses}
-use Rattle.express_syntax.specs.Steps.{StopsIn, Passes}
+use Rattle.express_syntax.specs.steps.Predict.{Symbol, Just, Say, Id, Running, in_parentheses, Head, Super, SuperOf, Sub, Body, explicits, names_symbols, next_sub, next_super, next_super_of, next_head, is_keyword}
+use Rattle.express_entities.specs.steps.EntityParts.{FitsHead, words_of_types, words_of_beginning, FitsClauses, words_of_clauses}
+use Rattle.express_syntax.specs.steps.Steps.{StopsIn, Passes}
 use Rattle.express_syntax.proofs.Looking.{keyword_met}
 use Rattle.express_syntax.proofs.Taking.{passes_as, passes_join, passes_more, passes_then, passes_token, passes_taken, passes_first, stops_behind, stops_first, passes_other, stops_as}
 
@@ -56,7 +56,7 @@ pub sub_err_names : (f : SyntaxFault) (s : LocatedToken) (here a : Reading) → 
     [] a → StopsIn f (Sub ∷ []) (s ∷ []) here
 sub_err_names f s here a e h g = stops_behind f names_symbols (Just marks.Semicolon ∷ []) (sub_of s here a e h) g
 
--- .. or the semicolon behind them
+-- what stops the semicolon after the names
 pub sub_err_semicolon : (f : SyntaxFault) (names : List (List ℕ)) (s : LocatedToken) (here a b : Reading)
     → is_keyword keywords.Subtype s.lookahead ≡ true → Passes (Say keywords.Of ∷ []) [] [] (keyword keywords.Of ∷ [])
     here a
@@ -96,7 +96,7 @@ pub super_bare : {ws : List Word} {a new : Reading} (s t : LocatedToken) (here :
 super_bare s t here e shows k h = passes_join (super_begins s here e)
     (passes_first t here shows (passes_other SuperOf Sub t (super_of_next t.lookahead k) h))
 
--- .. behind SUPERTYPE without an expression
+-- a fault after SUPERTYPE without an expression
 pub super_err_bare : {a : Reading} (f : SyntaxFault) (s t : LocatedToken) (here : Reading)
     → is_keyword keywords.Supertype s.lookahead ≡ true → Shows here t a → is_keyword keywords.Of t.lookahead ≡ false
     → StopsIn f (Sub ∷ []) (t ∷ []) a
@@ -130,14 +130,14 @@ super_said : {a b c : Reading} (x : Supertype) (s t : LocatedToken) (here : Read
 super_said x s t here e shows k h g = passes_as (words_of_supertype x) (sym g.1)
     (passes_join (super_open s t here e shows k h) (passes_more (Sub ∷ []) g.2))
 
--- .. behind SUPERTYPE OF
+-- a fault after SUPERTYPE OF
 pub super_err_open : {a : Reading} (f : SyntaxFault) (s t : LocatedToken) (here : Reading)
     → is_keyword keywords.Supertype s.lookahead ≡ true → Shows here t a → is_keyword keywords.Of t.lookahead ≡ true
     → StopsIn f (Just marks.Open ∷ []) [] a → StopsIn f (Super ∷ []) (s ∷ []) here
 super_err_open f s t here e shows k g = stops_behind f (Just marks.Open ∷ []) (Running in_parentheses 1 [] false ∷ Sub
     ∷ []) (super_of s t here e shows k) g
 
--- .. in the expression
+-- a fault in the supertype expression
 pub super_err_expression : {a b : Reading} (f : SyntaxFault) (s t : LocatedToken) (here : Reading)
     → is_keyword keywords.Supertype s.lookahead ≡ true → Shows here t a → is_keyword keywords.Of t.lookahead ≡ true
     → Passes (Just marks.Open ∷ []) [] [] (mark marks.Open ∷ []) a b
@@ -145,7 +145,7 @@ pub super_err_expression : {a b : Reading} (f : SyntaxFault) (s t : LocatedToken
 super_err_expression f s t here e shows k h g = stops_behind f (Running in_parentheses 1 [] false ∷ []) (Sub ∷ [])
     (super_open s t here e shows k h) g
 
--- .. behind it
+-- a fault after the supertype expression
 pub super_err_behind : {a b c : Reading} (f : SyntaxFault) (x : Supertype) (s t : LocatedToken) (here : Reading)
     → is_keyword keywords.Supertype s.lookahead ≡ true → Shows here t a → is_keyword keywords.Of t.lookahead ≡ true
     → Passes (Just marks.Open ∷ []) [] [] (mark marks.Open ∷ []) a b
@@ -155,7 +155,7 @@ pub super_err_behind : {a b c : Reading} (f : SyntaxFault) (x : Supertype) (s t 
 super_err_behind f x s t here e shows k h g stop = stops_behind f (Sub ∷ []) [] (super_said x s t here e shows k h g)
     stop
 
--- .. from a token on that is taken
+-- a fault after the supertype expression, from a token on that is taken
 pub super_err_sub : {a b c d : Reading} (f : SyntaxFault) (x : Supertype) (s t u : LocatedToken) (here : Reading)
     → is_keyword keywords.Supertype s.lookahead ≡ true → Shows here t a → is_keyword keywords.Of t.lookahead ≡ true
     → Passes (Just marks.Open ∷ []) [] [] (mark marks.Open ∷ []) a b
@@ -194,7 +194,7 @@ head_plain h s old shows e g = (
       (passes_first s old shows (passes_other Head Super s (head_next s.lookahead e) g.2)),
 )
 
--- .. that is none
+-- a fault in a head without ABSTRACT
 pub head_err_plain : {a : Reading} (f : SyntaxFault) (s : LocatedToken) (old : Reading) → Shows old s a
     → is_keyword keywords.Abstract s.lookahead ≡ false → StopsIn f (Super ∷ []) (s ∷ []) a → StopsIn f (Head ∷ []) []
     old
@@ -219,7 +219,7 @@ pub head_abstract : {a b new : Reading} (h : code.Head) (s t : LocatedToken) (ol
 head_abstract {a} h s t old shows e more g =
     (g.1, rw g.0 (passes_join (head_begins s old shows e) (passes_first t a more g.2)))
 
--- .. from a token on that is taken
+-- a fault after ABSTRACT, from a token on that is taken
 pub head_err_abstract : {a b : Reading} (f : SyntaxFault) (s t : LocatedToken) (old : Reading) → Shows old s a
     → is_keyword keywords.Abstract s.lookahead ≡ true → Shows a t b → StopsIn f (Super ∷ []) (t ∷ []) b
     → StopsIn f (Head ∷ []) [] old
@@ -234,7 +234,7 @@ pub entity_err_head : {u : List Word} {old a : Reading} (f : SyntaxFault) → Pa
     → StopsIn f (Head ∷ []) [] a → StopsIn f entity_symbols [] old
 entity_err_head f h g = stops_behind f (Head ∷ []) (Body explicits ∷ []) (passes_more (Head ∷ Body explicits ∷ []) h) g
 
--- .. or the clauses
+-- what stops the clauses
 pub entity_err_clauses : {u v : List Word} {old a b : Reading} (f : SyntaxFault) → Passes (Id ∷ []) [] [] u old a
     → Passes (Head ∷ []) [] [] v a b → StopsIn f (Body explicits ∷ []) [] b → StopsIn f entity_symbols [] old
 entity_err_clauses f h g stop = stops_behind f (Body explicits ∷ []) []
@@ -279,14 +279,14 @@ entity_words : (n : List ℕ) (h : code.Head) (x : Clauses) → words_of_entity 
     keywords.Entity ∷ name n ∷ (words_of_beginning h ++ words_of_clauses x)
 entity_words n h x =
     ap (λ l. keyword keywords.Entity ∷ name n ∷ l)
-    (words_regrouped (words_of_beginning h) (joined (map words_of_explicit (map explicit_of x.explicits.items)))
+    (words_regrouped (words_of_beginning h) (concatenated (map words_of_explicit (map explicit_of x.explicits.items)))
     (words_of_clause keywords.Derive words_of_derived (if_some (λ list. map derived_of list.items) x.derived))
     (words_of_clause keywords.Inverse words_of_inverse (if_some (λ list. map inverse_of list.items) x.inverses))
     (words_of_clause keywords.Unique words_of_unique (if_some (λ us. map unique_of us.items) x.uniques))
     (words_of_clause keywords.Where words_of_rule (if_some (λ rs. rules_of rs.items) x.rules))
     (keyword keywords.EndEntity ∷ mark marks.Semicolon ∷ []))
 
--- .. is read
+-- an entity of a name, a head and clauses is read
 pub entity_done : (n : List ℕ) (h : code.Head) (x : Clauses) (old a b new : Reading)
     → Passes (Id ∷ []) [] [] (name n ∷ []) old a → FitsHead h × Passes (Head ∷ []) [] [] (words_of_beginning h) a b
     → FitsClauses x × Passes (Body explicits ∷ []) [] [] (words_of_clauses x) b new

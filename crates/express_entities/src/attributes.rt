@@ -1,13 +1,13 @@
 //! Attributes and uniqueness rules (ISO 10303-11, 9.2.1 and 9.2.2.1).
 
 ghost use Rattle.std.specs.Prelude.{◌≡◌, false, [], ◌∷◌, ◌++◌, List, map, IfOk, MatchResult};
-ghost use Rattle.express_lexis.specs.declared.marks.Mark.TheVariants as marks;
+ghost use Rattle.express_lexer.specs.declared.marks.Mark.TheVariants as marks;
 ghost use Rattle.express_syntax.specs.declared.keyword.Keyword.TheVariants as keywords;
 ghost use Rattle.express_syntax.specs.Words;
 ghost use Rattle.express_syntax.specs.Words.{keyword, name, mark};
 ghost use Rattle.express_syntax.specs.ExpressionViews.{capitals};
 ghost use Rattle.express_syntax.specs.Grammar.{depth_limit};
-ghost use Rattle.express_runs.specs.Items.{located_of};
+ghost use Rattle.express_token_runs.specs.steps.Items.{located_of};
 ghost use Rattle.express_syntax.specs.Views.{
   if_some,
   data_type_of,
@@ -18,7 +18,7 @@ ghost use Rattle.express_syntax.specs.Views.{
   inverse_of,
   unique_of,
 };
-ghost use Rattle.express_syntax.specs.Written.{
+ghost use Rattle.express_syntax.specs.WrittenSchemas.{
   said,
   with_commas,
   words_of_data_type,
@@ -46,7 +46,7 @@ ghost use Rattle.express_syntax.specs.Sources.{
   IsCollectionOf,
   IsInverseOf,
 };
-ghost use Rattle.express_syntax.specs.Predict.{
+ghost use Rattle.express_syntax.specs.steps.Predict.{
   Symbol,
   derived,
   inverses,
@@ -61,24 +61,24 @@ ghost use Rattle.express_syntax.specs.Predict.{
   behind_attribute,
   is_mark,
 };
-ghost use Rattle.express_syntax.specs.Steps.{Passes, Parses, ParsesWhere, ParsesBehind, StopsIn};
-ghost use Rattle.express_entities.specs.Lists.{IsListed, ListsOn, UniqueOn};
+ghost use Rattle.express_syntax.specs.steps.Steps.{Passes, Parses, ParsesWhere, ParsesBehind, StopsIn};
+ghost use Rattle.express_entities.specs.steps.Lists.{IsListed, ListsOn, UniqueOn};
 
-use express_lexis::marks::Mark;
+use express_lexer::marks::Mark;
 use express_parts::bounds::some_bounds;
 use express_parts::data_types::{Ending, data_type, data_type_from};
 use express_parts::rules::body;
-use express_runs::reader::Reader;
-use express_runs::tokens::{Item, is_keyword, is_mark, refuse};
 use express_syntax::fault::SyntaxFault;
 use express_syntax::keyword::Keyword;
 use express_syntax::lexeme::Lexeme;
 use express_syntax::tree::{
     Attribute, AttributeList, Collection, DataType, Derived, Explicit, Inverse, Unique,
 };
+use express_token_runs::reader::Reader;
+use express_token_runs::tokens::{Item, is_keyword, is_mark, refuse};
 use step_literals::literal::Word;
 
-/// Reads the attribute that is redeclared, behind SELF.
+/// Reads a redeclared attribute, after SELF.
 pub fn redeclared<'a>(reader: &mut Reader<'a>) -> Result<Attribute<'a>, SyntaxFault>
     ensures { MatchResult result
         (λ a. (ws : List Words.Word)
@@ -108,8 +108,8 @@ pub fn attribute<'a>(reader: &mut Reader<'a>) -> Result<Attribute<'a>, SyntaxFau
     }
 }
 
-/// Reads the attributes behind the first, each behind a comma. `next` is the token behind the
-/// first; the token behind the last is answered too.
+/// Reads the attributes after `first`, each after a comma. `next` is the token after `first`.
+/// Returns all attributes, `first` included, and the token after the last.
 fn attributes<'a>(
     reader: &mut Reader<'a>,
     first: Attribute<'a>,
@@ -135,7 +135,7 @@ fn attributes<'a>(
     }
 }
 
-/// Reads a data type, and whether OPTIONAL stands before it.
+/// Reads a data type, and returns whether OPTIONAL precedes it.
 fn optional_data_type<'a>(reader: &mut Reader<'a>) -> Result<(bool, DataType<'a>), SyntaxFault>
     ensures read { ParsesWhere result (OptionalDataType ∷ [])
         (λ p. said keywords.Optional p.0 ++ words_of_data_type (data_type_of p.1)
@@ -152,7 +152,7 @@ fn optional_data_type<'a>(reader: &mut Reader<'a>) -> Result<(bool, DataType<'a>
     Ok((false, data_type))
 }
 
-/// Reads explicit attributes behind the first of them.
+/// Reads explicit attributes, after the first of them.
 pub fn explicit<'a>(
     reader: &mut Reader<'a>,
     first: Attribute<'a>,
@@ -175,7 +175,7 @@ pub fn explicit<'a>(
     })
 }
 
-/// Reads a derived attribute behind its name.
+/// Reads a derived attribute, after its name.
 pub fn derived<'a>(
     reader: &mut Reader<'a>,
     attribute: Attribute<'a>,
@@ -220,8 +220,8 @@ fn collection<'a>(reader: &mut Reader<'a>) -> Result<(Collection<'a>, Word<'a>),
     }
 }
 
-/// Reads the rest of an inverse attribute behind the first name that follows FOR: the entity that
-/// declares the attribute that is inverted, or this attribute.
+/// Reads the rest of an inverse attribute after the first name that follows FOR. That name is the
+/// entity that declares the inverted attribute, or the inverted attribute itself.
 fn holder<'a>(
     reader: &mut Reader<'a>,
     first: Word<'a>,
@@ -245,7 +245,7 @@ fn holder<'a>(
     Ok((Some(first), inverted))
 }
 
-/// Reads an inverse attribute behind its name.
+/// Reads an inverse attribute, after its name.
 pub fn inverse<'a>(
     reader: &mut Reader<'a>,
     attribute: Attribute<'a>,
@@ -270,8 +270,8 @@ pub fn inverse<'a>(
     })
 }
 
-/// Reads the attributes of a uniqueness rule behind the first, and the semicolon. `next` is the
-/// token behind the first.
+/// Reads the attributes of a uniqueness rule after the first, and the semicolon. `next` is the
+/// token after the first.
 fn attributes_of_unique<'a>(
     reader: &mut Reader<'a>,
     first: Attribute<'a>,
@@ -289,7 +289,7 @@ fn attributes_of_unique<'a>(
     Ok(attributes)
 }
 
-/// Reads the attributes of a uniqueness rule behind the first, and the semicolon.
+/// Reads the attributes of a uniqueness rule after the first, and the semicolon.
 fn unique_attributes<'a>(
     reader: &mut Reader<'a>,
     first: Attribute<'a>,
@@ -303,7 +303,7 @@ fn unique_attributes<'a>(
     attributes_of_unique(reader, first, next)
 }
 
-/// Reads a uniqueness rule without a label behind its first attribute.
+/// Reads a uniqueness rule without a label, after its first attribute.
 pub fn unique<'a>(reader: &mut Reader<'a>, first: Attribute<'a>) -> Result<Unique<'a>, SyntaxFault>
     ensures { ParsesBehind (words_of_attribute (attribute_of first.entry)) result (Uniques ∷ [])
         (λ x. words_of_unique (unique_of x))
@@ -316,7 +316,7 @@ pub fn unique<'a>(reader: &mut Reader<'a>, first: Attribute<'a>) -> Result<Uniqu
     })
 }
 
-/// Reads a uniqueness rule behind the name with which it begins: its label, or its first attribute.
+/// Reads a uniqueness rule after the name that begins it: its label, or its first attribute.
 pub fn unique_named<'a>(reader: &mut Reader<'a>, first: Word<'a>) -> Result<Unique<'a>, SyntaxFault>
     ensures { ParsesBehind (name (capitals first.entry) ∷ []) result (UniqueNamed ∷ [])
         (λ x. words_of_unique (unique_of x))

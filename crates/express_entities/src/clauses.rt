@@ -13,7 +13,7 @@ ghost use Rattle.std.specs.Prelude.{
   MatchResult,
   Err,
 };
-ghost use Rattle.express_lexis.specs.declared.marks.Mark.TheVariants as marks;
+ghost use Rattle.express_lexer.specs.declared.marks.Mark.TheVariants as marks;
 ghost use Rattle.express_syntax.specs.declared.keyword.Keyword.TheVariants as keywords;
 ghost use Rattle.express_syntax.specs.Words.{Word, keyword, mark};
 ghost use Rattle.express_syntax.specs.Grammar.{depth_limit};
@@ -27,7 +27,7 @@ ghost use Rattle.express_syntax.specs.Views.{
   unique_of,
   rules_of,
 };
-ghost use Rattle.express_syntax.specs.Written.{
+ghost use Rattle.express_syntax.specs.WrittenSchemas.{
   words_of_attribute,
   words_of_clause,
   words_of_explicit,
@@ -46,10 +46,10 @@ ghost use Rattle.express_syntax.specs.Profile.{
   FitsRules,
 };
 ghost use Rattle.express_syntax.specs.Sources.{IsExplicitOf, IsDerivedOf, IsInverseOf, IsRuleOf};
-ghost use Rattle.express_syntax.specs.Predict;
-ghost use Rattle.express_syntax.specs.Predict.{explicits, derived, inverses, uniques, refused};
-ghost use Rattle.express_entities.specs.EntityParts;
-ghost use Rattle.express_entities.specs.EntityParts.{
+ghost use Rattle.express_syntax.specs.steps.Predict;
+ghost use Rattle.express_syntax.specs.steps.Predict.{explicits, derived, inverses, uniques, refused};
+ghost use Rattle.express_entities.specs.steps.EntityParts;
+ghost use Rattle.express_entities.specs.steps.EntityParts.{
   clause_of,
   may_end,
   keyword_of,
@@ -62,17 +62,17 @@ ghost use Rattle.express_entities.specs.EntityParts.{
   FitsClauses,
   words_of_clauses,
 };
-ghost use Rattle.express_syntax.specs.Steps.{Passes, ParsesWhere, ParsesBehind, StopsIn};
+ghost use Rattle.express_syntax.specs.steps.Steps.{Passes, ParsesWhere, ParsesBehind, StopsIn};
 
 use crate::attributes::{derived, explicit, inverse, redeclared, unique, unique_named};
-use express_lexis::marks::Mark;
+use express_lexer::marks::Mark;
 use express_parts::rules::rules;
-use express_runs::reader::Reader;
-use express_runs::tokens::{is_keyword, refuse};
 use express_syntax::fault::SyntaxFault;
 use express_syntax::keyword::Keyword;
 use express_syntax::lexeme::Lexeme;
 use express_syntax::tree::{Attribute, Derived, Explicit, Inverse, Rule, Unique};
+use express_token_runs::reader::Reader;
+use express_token_runs::tokens::{is_keyword, refuse};
 
 /// A clause of attributes or of uniqueness rules.
 #[derive(Clone, Copy, Debug, PartialEq, Eq)]
@@ -93,7 +93,7 @@ pub enum Boundary {
     EndEntity,
 }
 
-/// What stands next in a clause: an attribute, or the keyword that ends it.
+/// The beginning of the next part of a clause: an attribute, or the keyword that ends the clause.
 #[derive(Clone, Copy)]
 pub enum ClauseStart<'a> {
     Attribute(Attribute<'a>),
@@ -110,7 +110,7 @@ pub struct Clauses<'a> {
     pub rules: Option<Vec<Rule<'a>>>,
 }
 
-/// The keyword, if it ends clauses.
+/// Returns the boundary with this keyword, if any.
 fn boundary_of(found: Keyword) -> Option<Boundary>
     ensures { result ≡ EntityParts.boundary_of found }
 {
@@ -124,7 +124,7 @@ fn boundary_of(found: Keyword) -> Option<Boundary>
     }
 }
 
-/// Whether the keyword ends this clause: clauses stand in their order, and each once.
+/// Whether the boundary ends this clause. Clauses have a fixed order, and none occurs twice.
 fn may_end(clause: Clause, boundary: Boundary) -> bool
     ensures { result ≡ EntityParts.may_end (clause_of clause) boundary }
 {
@@ -136,7 +136,7 @@ fn may_end(clause: Clause, boundary: Boundary) -> bool
     }
 }
 
-/// The keyword, if it ends this clause.
+/// Returns the boundary with this keyword, if it ends this clause.
 fn boundary_behind(clause: Clause, found: Keyword) -> Option<Boundary>
     ensures { MatchOption result ((found ≡ keywords.SelfWord → ⊥)
         → Predict.next depth_limit (Predict.Body (clause_of clause)) (token (keyword found))
@@ -151,7 +151,7 @@ fn boundary_behind(clause: Clause, found: Keyword) -> Option<Boundary>
     }
 }
 
-/// Reads the first attribute of what stands next in a clause, or the keyword that ends it.
+/// Reads the first attribute of the next part of a clause, or the keyword that ends the clause.
 fn take_start<'a>(reader: &mut Reader<'a>, clause: Clause) -> Result<ClauseStart<'a>, SyntaxFault>
     ensures { MatchResult result
         (λ f. Begins (clause_of clause) f reader.old reader.new)
@@ -171,7 +171,7 @@ fn take_start<'a>(reader: &mut Reader<'a>, clause: Clause) -> Result<ClauseStart
     }
 }
 
-/// Reads explicit attributes up to the keyword behind them.
+/// Reads explicit attributes, up to and including the keyword that ends them.
 fn explicit_clause<'a>(
     reader: &mut Reader<'a>,
 ) -> Result<(Vec<Explicit<'a>>, Boundary), SyntaxFault>
@@ -196,7 +196,7 @@ fn explicit_clause<'a>(
     }
 }
 
-/// Reads derived attributes up to the keyword behind them.
+/// Reads derived attributes, up to and including the keyword that ends them.
 fn derived_clause<'a>(reader: &mut Reader<'a>) -> Result<(Vec<Derived<'a>>, Boundary), SyntaxFault>
     ensures read { MatchResult result
         (λ p. Ended derived (FitsDerived depth_limit) words_of_derived (map derived_of p.0.items)
@@ -219,7 +219,7 @@ fn derived_clause<'a>(reader: &mut Reader<'a>) -> Result<(Vec<Derived<'a>>, Boun
     }
 }
 
-/// Reads inverse attributes up to the keyword behind them.
+/// Reads inverse attributes, up to and including the keyword that ends them.
 fn inverse_clause<'a>(reader: &mut Reader<'a>) -> Result<(Vec<Inverse<'a>>, Boundary), SyntaxFault>
     ensures read { MatchResult result
         (λ p. Ended inverses (FitsInverse depth_limit) words_of_inverse (map inverse_of p.0.items)
@@ -242,7 +242,7 @@ fn inverse_clause<'a>(reader: &mut Reader<'a>) -> Result<(Vec<Inverse<'a>>, Boun
     }
 }
 
-/// Reads a uniqueness rule behind the attribute with which it begins, or its label.
+/// Reads a uniqueness rule after the attribute that begins it, or its label.
 fn unique_rule<'a>(reader: &mut Reader<'a>, first: Attribute<'a>) -> Result<Unique<'a>, SyntaxFault>
     ensures { ParsesBehind (words_of_attribute (attribute_of first.entry)) result
         (behind_first uniques (attribute_of first.entry))
@@ -255,7 +255,7 @@ fn unique_rule<'a>(reader: &mut Reader<'a>, first: Attribute<'a>) -> Result<Uniq
     }
 }
 
-/// Reads uniqueness rules up to the keyword behind them.
+/// Reads uniqueness rules, up to and including the keyword that ends them.
 fn unique_clause<'a>(reader: &mut Reader<'a>) -> Result<(Vec<Unique<'a>>, Boundary), SyntaxFault>
     ensures { MatchResult result
         (λ p. Ended uniques FitsUnique words_of_unique (map unique_of p.0.items) p.1 reader.old
@@ -277,7 +277,7 @@ fn unique_clause<'a>(reader: &mut Reader<'a>) -> Result<(Vec<Unique<'a>>, Bounda
     }
 }
 
-/// Reads the derived attributes, if it is DERIVE that stands before.
+/// Reads the derived attributes, if the keyword before is DERIVE.
 fn some_derived<'a>(
     reader: &mut Reader<'a>,
     from: Boundary,
@@ -298,7 +298,7 @@ fn some_derived<'a>(
     }
 }
 
-/// Reads the inverse attributes, if it is INVERSE that stands before.
+/// Reads the inverse attributes, if the keyword before is INVERSE.
 fn some_inverses<'a>(
     reader: &mut Reader<'a>,
     from: Boundary,
@@ -320,7 +320,7 @@ fn some_inverses<'a>(
     }
 }
 
-/// Reads the uniqueness rules, if it is UNIQUE that stands before.
+/// Reads the uniqueness rules, if the keyword before is UNIQUE.
 fn some_uniques<'a>(
     reader: &mut Reader<'a>,
     from: Boundary,
@@ -340,7 +340,7 @@ fn some_uniques<'a>(
     }
 }
 
-/// Reads the domain rules, if it is WHERE that stands before, and what ends the entity.
+/// Reads the domain rules, if the keyword before is WHERE, and the end of the entity.
 fn some_rules<'a>(
     reader: &mut Reader<'a>,
     from: Boundary,
@@ -368,7 +368,7 @@ fn some_rules<'a>(
     }
 }
 
-/// Reads the clauses of an entity, and what ends it.
+/// Reads the clauses of an entity, and its end.
 pub fn read_clauses<'a>(reader: &mut Reader<'a>) -> Result<Clauses<'a>, SyntaxFault>
     ensures read { ParsesWhere result (Predict.Body explicits ∷ []) words_of_clauses FitsClauses
         reader.old reader.new }

@@ -1,20 +1,20 @@
 //! Entities (ISO 10303-11, 9.2).
 
 ghost use Rattle.std.specs.Prelude.{◌≡◌, [], ◌∷◌, ◌++◌, List, IfOk, MatchResult};
-ghost use Rattle.express_lexis.specs.declared.marks.Mark.TheVariants as marks;
+ghost use Rattle.express_lexer.specs.declared.marks.Mark.TheVariants as marks;
 ghost use Rattle.express_syntax.specs.declared.keyword.Keyword.TheVariants as keywords;
 ghost use Rattle.express_syntax.specs.Words;
 ghost use Rattle.express_syntax.specs.Words.{keyword, mark};
 ghost use Rattle.express_syntax.specs.Grammar.{depth_limit};
 ghost use Rattle.express_syntax.specs.Views.{if_some, names_of, entity_of};
-ghost use Rattle.express_syntax.specs.Written.{words_of_subtype, words_of_entity};
+ghost use Rattle.express_syntax.specs.WrittenSchemas.{words_of_subtype, words_of_entity};
 ghost use Rattle.express_syntax.specs.Profile.{Maybe, IsFilled, FitsEntity};
 ghost use Rattle.express_syntax.specs.Sources.{IsSupertypeOf, IsEntityOf};
-ghost use Rattle.express_syntax.specs.Predict;
-ghost use Rattle.express_syntax.specs.Predict.{Id, Super, Sub, explicits};
-ghost use Rattle.express_runs.specs.Items.{located_of};
-ghost use Rattle.express_entities.specs.EntityParts.{FitsHead, words_of_types, words_of_beginning};
-ghost use Rattle.express_syntax.specs.Steps.{
+ghost use Rattle.express_syntax.specs.steps.Predict;
+ghost use Rattle.express_syntax.specs.steps.Predict.{Id, Super, Sub, explicits};
+ghost use Rattle.express_token_runs.specs.steps.Items.{located_of};
+ghost use Rattle.express_entities.specs.steps.EntityParts.{FitsHead, words_of_types, words_of_beginning};
+ghost use Rattle.express_syntax.specs.steps.Steps.{
   Passes,
   ParsesWhere,
   ParsesFrom,
@@ -23,17 +23,17 @@ ghost use Rattle.express_syntax.specs.Steps.{
 };
 
 use crate::clauses::read_clauses;
-use express_lexis::marks::Mark;
+use express_lexer::marks::Mark;
 use express_parts::bounds::supertype;
-use express_runs::names::names;
-use express_runs::reader::Reader;
-use express_runs::tokens::{Item, is_keyword, is_mark, refuse};
 use express_syntax::fault::SyntaxFault;
 use express_syntax::keyword::Keyword;
 use express_syntax::tree::{Entity, Supertype};
+use express_token_runs::names::names;
+use express_token_runs::reader::Reader;
+use express_token_runs::tokens::{Item, is_keyword, is_mark, refuse};
 use step_literals::literal::Word;
 
-/// What stands between the name of an entity and its first clause.
+/// The part of an entity between its name and its first clause.
 #[derive(Drop)]
 pub struct Head<'a> {
     pub is_abstract: bool,
@@ -41,7 +41,7 @@ pub struct Head<'a> {
     pub subtype_of: Option<Vec<Word<'a>>>,
 }
 
-/// Reads what SUBTYPE says, if it begins with this token, and the semicolon.
+/// Reads the SUBTYPE clause, if it begins with this token, and the semicolon.
 fn subtype_of<'a>(
     reader: &mut Reader<'a>,
     first: Item<'a>,
@@ -63,7 +63,7 @@ fn subtype_of<'a>(
     Ok(Some(entities))
 }
 
-/// Reads what SUPERTYPE and SUBTYPE say, from this token on, and the semicolon.
+/// Reads the SUPERTYPE and SUBTYPE clauses from this token on, and the semicolon.
 fn types<'a>(
     reader: &mut Reader<'a>,
     first: Item<'a>,
@@ -104,7 +104,7 @@ fn types<'a>(
     })
 }
 
-/// Reads the head of an entity behind its name.
+/// Reads the head of an entity, after its name.
 fn read_head<'a>(reader: &mut Reader<'a>) -> Result<Head<'a>, SyntaxFault>
     ensures read { ParsesWhere result (Predict.Head ∷ []) words_of_beginning FitsHead reader.old
         reader.new }
@@ -118,7 +118,7 @@ fn read_head<'a>(reader: &mut Reader<'a>) -> Result<Head<'a>, SyntaxFault>
     types(reader, second, true)
 }
 
-/// Reads an entity behind ENTITY.
+/// Reads an entity, after ENTITY.
 pub fn entity<'a>(reader: &mut Reader<'a>) -> Result<Entity<'a>, SyntaxFault>
     ensures read { ParsesBehind (keyword keywords.Entity ∷ []) result
         (Id ∷ Predict.Head ∷ Predict.Body explicits ∷ [])

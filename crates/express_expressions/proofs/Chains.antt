@@ -1,16 +1,16 @@
 -- What loops have read so far: what may follow completes it, and whatever stands goes on with what is left.
 use Rattle.std.proofs.Common.{◌≡◌, ℕ, ◌+◌, ◌<◌, ◌≤◌, ◌⊎◌, inl, inr, false, List, [], ◌∷◌, ◌++◌, length, refl, sym, ap, ◌∙◌, subst, append_assoc, append-nil, arith}
 use Rattle.std.proofs.lemmas.Grind.{common_steps}
-use Rattle.express_lexis.specs.declared.marks.Mark.TheVariants as marks
+use Rattle.express_lexer.specs.declared.marks.Mark.TheVariants as marks
 use Rattle.express_syntax.specs.declared.keyword.Keyword.TheVariants as keywords
 use Rattle.express_syntax.specs.declared.expression.Junction.{Junction}
 use Rattle.express_syntax.specs.declared.expression.Junction.TheVariants as junctions
 use Rattle.express_syntax.specs.Words.{Word, keyword, name, mark}
 use Rattle.express_syntax.specs.Trees.{Tree, Trees, none, one, Alternatives, finish, another, Qualifiers, plain, attribute, group, index, words, words_of_trees, words_of_others, words_of_alternatives, words_of_qualifiers, word_of_junction}
 use Rattle.express_syntax.specs.Grammar.{Level, primary, unary, term, simple, expression, depth_limit, FitsEach}
-use Rattle.express_syntax.specs.Reads.{goes_on, Stops, Stands, StandsNone}
+use Rattle.express_syntax.specs.steps.Reads.{goes_on, Stops, Stands, StandsNone}
 use Rattle.express_syntax.specs.ExpressionViews.{Selection, of_attribute, of_group, of_element}
-use Rattle.express_expressions.specs.Pieces.{Lacks, Others, OthersNone, More, MoreNone, Selects, SelectsNone, Elements, ElementsNone, Before, BeforeNone, AttributeNone, Qualifies, QualifierNone}
+use Rattle.express_expressions.specs.steps.Pieces.{Lacks, Others, OthersNone, More, MoreNone, Selects, SelectsNone, Elements, ElementsNone, Before, BeforeNone, AttributeNone, Qualifies, QualifierNone}
 use Rattle.express_expressions.proofs.ViewLemmas.{joined, joined_alternatives, joined_qualifiers, selected, joined_none, joined_joined, joined_alternatives_finish, joined_joined_alternatives, joined_qualifiers_plain, joined_joined_qualifiers}
 use Rattle.express_syntax.proofs.Stopping.{conjuncts_behind, alternatives_behind, elements_behind}
 use Rattle.express_expressions.proofs.Parts.{stands_same, stands_along, stands_behind, unary_stops, term_stops}

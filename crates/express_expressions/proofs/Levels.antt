@@ -7,8 +7,8 @@ use Rattle.express_syntax.specs.declared.expression.Relation.{Relation}
 use Rattle.express_syntax.specs.Words.{Word, word_of, keyword}
 use Rattle.express_syntax.specs.Trees.{Tree, negation, conjunction, disjunction, comparison, Trees, none, one, Alternatives, finish, another, words, words_of_others, words_of_alternatives, word_of_sign, word_of_relation}
 use Rattle.express_syntax.specs.Grammar.{primary, unary, term, simple, expression, IsNone}
-use Rattle.express_syntax.specs.Reads.{Stops, Stands, StandsNone}
-use Rattle.express_expressions.specs.Pieces.{words_from, Lacks, Others, OthersNone, More, MoreNone, conjoined, disjoined}
+use Rattle.express_syntax.specs.steps.Reads.{Stops, Stands, StandsNone}
+use Rattle.express_expressions.specs.steps.Pieces.{words_from, Lacks, Others, OthersNone, More, MoreNone, conjoined, disjoined}
 use Rattle.express_syntax.specs.declared.lexeme.Lexeme.{Lexeme}
 use Rattle.express_syntax.specs.declared.expression.Expr.{Expr}
 use Rattle.express_syntax.specs.declared.expression.Alternative.{Alternative}

@@ -1,6 +1,6 @@
 -- What a tree that stands at a level of the grammar has at the level below.
 use Rattle.std.proofs.Common.{◌≡◌, ℕ, ◌≤◌, ◌⊎◌, inl, inr, false, List, [], ◌∷◌, ◌++◌, refl, sym, ◌∙◌, subst, append_assoc, arith}
-use Rattle.express_lexis.specs.declared.marks.Mark.TheVariants as marks
+use Rattle.express_lexer.specs.declared.marks.Mark.TheVariants as marks
 use Rattle.express_syntax.specs.declared.keyword.Keyword.TheVariants as keywords
 use Rattle.express_syntax.specs.declared.expression.Sign.{Sign}
 use Rattle.express_syntax.specs.declared.expression.Relation.{Relation}
@@ -9,9 +9,9 @@ use Rattle.express_syntax.specs.declared.expression.Junction.{Junction}
 use Rattle.express_syntax.specs.declared.expression.Junction.TheVariants as junctions
 use Rattle.express_syntax.specs.Words.{Word, keyword, mark}
 use Rattle.express_syntax.specs.Trees.{Number, Tree, literal, signed, reference, parenthesized, aggregate, interval, query, call, nvl, negation, conjunction, disjunction, comparison, Trees, none, one, Alternatives, finish, another, words, words_of_others, words_of_alternatives, word_of_number, word_of_sign, word_of_relation, word_of_junction}
-use Rattle.express_syntax.specs.Grammar.{Level, primary, unary, term, simple, expression, rank, Fits}
-use Rattle.express_syntax.specs.Reads.{goes_on, Stops, Stands}
-use Rattle.express_expressions.specs.Pieces.{Lacks, Others, More}
+use Rattle.express_syntax.specs.Grammar.{Level, primary, unary, term, simple, expression, level_rank, FitsLevel}
+use Rattle.express_syntax.specs.steps.Reads.{goes_on, Stops, Stands}
+use Rattle.express_expressions.specs.steps.Pieces.{Lacks, Others, More}
 use Rattle.express_syntax.proofs.Stopping.{stops_primary, stops_unary, stops_term, stops_simple, conjuncts_behind, alternatives_behind, relation_behind}
 use Rattle.express_syntax.proofs.UniqueExpressions.{one_front}
 
@@ -97,7 +97,7 @@ related relations.GreaterOrEqual h = cc
 related relations.In h = cc
 
 -- a tree that stands at a level stands at those above
-pub fits_up : (n : ℕ) (l m : Level) (x : Tree) → rank l ≤ rank m → Fits n l x → Fits n m x
+pub fits_up : (n : ℕ) (l m : Level) (x : Tree) → level_rank l ≤ level_rank m → FitsLevel n l x → FitsLevel n m x
 fits_up n l m (literal v) e h = tt
 fits_up n l m (signed s v) e h = omega (arith, h)
 fits_up n l m (reference r qs) e h = h

@@ -1,6 +1,6 @@
 -- Primaries by their first word.
 use Rattle.std.proofs.Common.{◌≡◌, ℕ, ◌+◌, ◌<◌, ◌≤◌, inl, inr, List, [], ◌∷◌, ◌++◌, None, Some, refl, sym, ap, ◌∙◌, subst, append_assoc, arith}
-use Rattle.express_lexis.specs.declared.marks.Mark.TheVariants as marks
+use Rattle.express_lexer.specs.declared.marks.Mark.TheVariants as marks
 use Rattle.express_syntax.specs.declared.keyword.Keyword.TheVariants as keywords
 use Rattle.express_syntax.specs.declared.expression.Logical.TheVariants as logicals
 use Rattle.express_syntax.specs.declared.expression.Limit.{Limit}
@@ -10,9 +10,9 @@ use Rattle.express_syntax.specs.declared.expression.Function.{Function}
 use Rattle.express_syntax.specs.declared.expression.Function.TheVariants as functions
 use Rattle.express_syntax.specs.Words.{Word, keyword, name, mark}
 use Rattle.express_syntax.specs.Trees.{Number, whole, decimal, Literal, number, text, codes_of_text, bits, constant, indeterminate, Root, own, named, Tree, literal, signed, reference, parenthesized, aggregate, interval, query, call, nvl, negation, conjunction, disjunction, comparison, Trees, Qualifiers, words, words_of_trees, words_of_qualifiers, word_of_number, word_of_sign, word_of_literal, word_of_limit, word_of_function, word_of_root}
-use Rattle.express_syntax.specs.Grammar.{Level, primary, unary, simple, expression, depth_limit, Fits}
-use Rattle.express_syntax.specs.Reads.{Stops, Stands, StandsNone}
-use Rattle.express_expressions.specs.Pieces.{Lacks, Before, BeforeNone, BoundNone, Elements, ElementsNone, Selects, SelectsNone, VariableNone, Beginning, value, parenthesis, bracket, brace, querying, calling, either, referring, beginning_word, beginning_of, NoBeginning, Heads}
+use Rattle.express_syntax.specs.Grammar.{Level, primary, unary, simple, expression, depth_limit, FitsLevel}
+use Rattle.express_syntax.specs.steps.Reads.{Stops, Stands, StandsNone}
+use Rattle.express_expressions.specs.steps.Pieces.{Lacks, Before, BeforeNone, BoundNone, Elements, ElementsNone, Selects, SelectsNone, VariableNone, Beginning, value, parenthesis, bracket, brace, querying, calling, either, referring, beginning_word, beginning_of, NoBeginning, Heads}
 use Rattle.express_syntax.proofs.Stopping.{stops_primary, limit_behind}
 use Rattle.express_syntax.proofs.UniqueExpressions.{one_elements, one_qualifiers}
 use Rattle.express_expressions.proofs.Parts.{stands_same, stands_along, primary_stops, unary_parts}
@@ -77,7 +77,7 @@ record Shaped (n : ℕ) (ws rest : List Word) : Type 0 where
   shape : Shape n beginning more rest
 
 -- a tree, a word that ends it, and more behind it
-enclosed : (n : ℕ) (l : Level) (x : Tree) (w : Word) (more rest : List Word) → n < depth_limit → Fits (n + 1) l x
+enclosed : (n : ℕ) (l : Level) (x : Tree) (w : Word) (more rest : List Word) → n < depth_limit → FitsLevel (n + 1) l x
     → Stops l (w ∷ more) → Before n l w (words x ++ w ∷ more) x more
 enclosed n l x w more rest d f s = record { shallow = d; stands = record { fits = f; spelled = refl; whole = s } }
 

@@ -5,9 +5,9 @@ use Rattle.express_syntax.specs.declared.lexeme.Lexeme.{Lexeme}
 use Rattle.express_syntax.specs.declared.expression.Expr.{Expr}
 use Rattle.express_syntax.specs.Words.{Word}
 use Rattle.express_syntax.specs.Trees.{Tree}
-use Rattle.express_expressions.specs.declared.not_read.NotRead.{NotRead}
-use Rattle.express_expressions.specs.declared.not_read.NotRead.TheVariants as failures
-use Rattle.express_expressions.specs.Pieces.{words_from, boxed_tree, Unless, MatchRead, Builds}
+use Rattle.express_expressions.specs.declared.refusals.NotRead.{NotRead}
+use Rattle.express_expressions.specs.declared.refusals.NotRead.TheVariants as failures
+use Rattle.express_expressions.specs.steps.Pieces.{words_from, boxed_tree, Unless, MatchRead, Builds}
 
 pub failed : {n m : Type 0} (e : NotRead) → (n → m) → Unless e n → Unless e m
 failed failures.NoExpression f h = f h

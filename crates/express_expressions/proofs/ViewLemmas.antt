@@ -4,7 +4,7 @@ use Rattle.std.proofs.lemmas.List.{append_assoc}
 use Rattle.express_syntax.specs.declared.expression.Expr.{Expr}
 use Rattle.express_syntax.specs.declared.expression.Qualifier.{Qualifier}
 use Rattle.express_syntax.specs.declared.expression.Alternative.{Alternative}
-use Rattle.express_lexis.specs.declared.marks.Mark.TheVariants as marks
+use Rattle.express_lexer.specs.declared.marks.Mark.TheVariants as marks
 use Rattle.express_syntax.specs.Words.{Word, name, mark}
 use Rattle.express_syntax.specs.Trees.{Trees, none, one, Alternatives, finish, another, Qualifiers, plain, attribute, group, index, words, word_of_junction, words_of_others, words_of_alternatives, words_of_qualifiers}
 use Rattle.express_syntax.specs.Grammar.{Level, FitsEach, FitsMore, FitsQualifiers}

@@ -1,4 +1,4 @@
-//! What stands at an index of lexemes, and the index behind it.
+//! What is at an index of lexemes, and the index after it.
 
 ghost use Rattle.std.specs.Prelude.{
   ◌≡◌,
@@ -23,8 +23,8 @@ ghost use Rattle.express_syntax.specs.Trees.{
   word_of_junction,
 };
 ghost use Rattle.express_syntax.specs.Grammar.{primary, depth_limit};
-ghost use Rattle.express_syntax.specs.Reads.{Stops};
-ghost use Rattle.express_expressions.specs.Pieces.{
+ghost use Rattle.express_syntax.specs.steps.Reads.{Stops};
+ghost use Rattle.express_expressions.specs.steps.Pieces.{
   words_from,
   Lacks,
   Finds,
@@ -35,14 +35,14 @@ ghost use Rattle.express_expressions.specs.Pieces.{
 ghost use Rattle.express_syntax.specs.ExpressionViews.{capitals, number_of};
 
 use crate::literals::{junction_at, limit_at, name_at, number_at, relation_at, sign_at};
-use crate::start::{Start, start_of};
-use express_lexis::marks::Mark;
+use crate::primary_starts::{Start, start_of};
+use express_lexer::marks::Mark;
 use express_syntax::expression::{Junction, LEVELS, Limit, Number, Relation, Sign};
 use express_syntax::keyword::Keyword;
 use express_syntax::lexeme::{Lexeme, is_keyword, is_mark};
 use step_literals::literal::Word;
 
-/// The lexeme at this index, if there are more.
+/// Returns the lexeme at this index, if any.
 fn first_at<'a>(lexemes: &[Lexeme<'a>], at: usize) -> Option<Lexeme<'a>>
     ensures { MatchOption result (words_from at lexemes.now ≡ [])
         (λ x. (at < length lexemes.now)
@@ -51,7 +51,7 @@ fn first_at<'a>(lexemes: &[Lexeme<'a>], at: usize) -> Option<Lexeme<'a>>
     lexemes.get(at).copied()
 }
 
-/// What is left behind this mark, if it stands first.
+/// Returns the index after this mark, if it is at `at`.
 pub(crate) fn behind_mark(lexemes: &[Lexeme<'_>], at: usize, wanted: Mark) -> Option<usize>
     ensures { FindsWord (mark wanted) at lexemes.now result }
 {
@@ -63,7 +63,7 @@ pub(crate) fn behind_mark(lexemes: &[Lexeme<'_>], at: usize, wanted: Mark) -> Op
     }
 }
 
-/// What is left behind this keyword, if it stands first.
+/// Returns the index after this keyword, if it is at `at`.
 pub(crate) fn behind_keyword(lexemes: &[Lexeme<'_>], at: usize, wanted: Keyword) -> Option<usize>
     ensures { FindsWord (keyword wanted) at lexemes.now result }
 {
@@ -75,7 +75,7 @@ pub(crate) fn behind_keyword(lexemes: &[Lexeme<'_>], at: usize, wanted: Keyword)
     }
 }
 
-/// The name that stands first.
+/// Returns the name at `at` and the index after it, if any.
 pub(crate) fn name_first<'a>(lexemes: &[Lexeme<'a>], at: usize) -> Option<(Word<'a>, usize)>
     ensures { Finds name capitals at lexemes.now result }
 {
@@ -84,7 +84,7 @@ pub(crate) fn name_first<'a>(lexemes: &[Lexeme<'a>], at: usize) -> Option<(Word<
     Some((word, at + 1))
 }
 
-/// The number that stands first.
+/// Returns the number at `at` and the index after it, if any.
 pub(crate) fn number_first<'a>(lexemes: &[Lexeme<'a>], at: usize) -> Option<(Number<'a>, usize)>
     ensures { Finds word_of_number number_of at lexemes.now result }
 {
@@ -93,7 +93,7 @@ pub(crate) fn number_first<'a>(lexemes: &[Lexeme<'a>], at: usize) -> Option<(Num
     Some((number, at + 1))
 }
 
-/// The sign that stands first.
+/// Returns the sign at `at` and the index after it, if any.
 pub(crate) fn sign_first<'a>(lexemes: &[Lexeme<'a>], at: usize) -> Option<(Sign, usize)>
     ensures { Finds word_of_sign (λ s. s) at lexemes.now result }
 {
@@ -102,7 +102,7 @@ pub(crate) fn sign_first<'a>(lexemes: &[Lexeme<'a>], at: usize) -> Option<(Sign,
     Some((sign, at + 1))
 }
 
-/// The relation that stands first.
+/// Returns the relation at `at` and the index after it, if any.
 pub(crate) fn relation_first<'a>(lexemes: &[Lexeme<'a>], at: usize) -> Option<(Relation, usize)>
     ensures { Finds word_of_relation (λ r. r) at lexemes.now result }
 {
@@ -111,7 +111,7 @@ pub(crate) fn relation_first<'a>(lexemes: &[Lexeme<'a>], at: usize) -> Option<(R
     Some((relation, at + 1))
 }
 
-/// The relation to an end of an interval that stands first.
+/// Returns the relation to an end of an interval at `at` and the index after it, if any.
 pub(crate) fn limit_first<'a>(lexemes: &[Lexeme<'a>], at: usize) -> Option<(Limit, usize)>
     ensures { Finds word_of_limit (λ l. l) at lexemes.now result }
 {
@@ -120,7 +120,7 @@ pub(crate) fn limit_first<'a>(lexemes: &[Lexeme<'a>], at: usize) -> Option<(Limi
     Some((limit, at + 1))
 }
 
-/// OR or XOR, where one of them stands first.
+/// Returns OR or XOR at `at` and the index after it, if any.
 pub(crate) fn junction_first<'a>(lexemes: &[Lexeme<'a>], at: usize) -> Option<(Junction, usize)>
     ensures { Finds word_of_junction (λ j. j) at lexemes.now result }
 {
@@ -129,7 +129,7 @@ pub(crate) fn junction_first<'a>(lexemes: &[Lexeme<'a>], at: usize) -> Option<(J
     Some((junction, at + 1))
 }
 
-/// The word that stands first, if a primary begins with it.
+/// Returns the start of a primary at `at` and the index after it, if any.
 pub(crate) fn start_first<'a>(lexemes: &[Lexeme<'a>], at: usize) -> Option<(Start<'a>, usize)>
     ensures { Finds beginning_word begun at lexemes.now result }
 {
@@ -138,7 +138,7 @@ pub(crate) fn start_first<'a>(lexemes: &[Lexeme<'a>], at: usize) -> Option<(Star
     Some((start, at + 1))
 }
 
-/// Whether no qualifier stands first.
+/// Whether no qualifier begins at `at`.
 pub(crate) fn is_unqualified(lexemes: &[Lexeme<'_>], at: usize) -> bool
     ensures { MatchBool result (Stops primary (words_from at lexemes.now))
         (Stops primary (words_from at lexemes.now) → ⊥) }
@@ -149,7 +149,7 @@ pub(crate) fn is_unqualified(lexemes: &[Lexeme<'_>], at: usize) -> bool
     }
 }
 
-/// Whether no relation stands first.
+/// Whether no relation is at `at`.
 pub(crate) fn is_unrelated(lexemes: &[Lexeme<'_>], at: usize) -> bool
     ensures { MatchBool result
         ((x : Relation) → Lacks (word_of_relation x) (words_from at lexemes.now))
@@ -159,7 +159,7 @@ pub(crate) fn is_unrelated(lexemes: &[Lexeme<'_>], at: usize) -> bool
     relation_first(lexemes, at).is_none()
 }
 
-/// Whether no more parentheses, brackets and braces may be open.
+/// Whether no further parenthesis, bracket or brace may be open.
 pub(crate) fn is_deepest(depth: u32) -> bool
     ensures { MatchBool result (depth_limit ≤ depth) (depth < depth_limit) }
 {

@@ -1,10 +1,10 @@
 //! Expressions of EXPRESS (ISO 10303-11, 12), read from the tokens of one expression.
 #![tactic(auto)]
 
-mod boxed;
-mod build;
+mod boxes;
+mod builders;
 mod front;
 mod literals;
-mod not_read;
-pub mod read;
-mod start;
+mod primary_starts;
+pub mod reader;
+mod refusals;

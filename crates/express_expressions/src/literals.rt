@@ -1,4 +1,4 @@
-//! Which lexemes are names, numbers, signs and relations (ISO 10303-11, 7.5 and 12).
+//! The lexemes that are names, numbers, signs and relations (ISO 10303-11, 7.5 and 12).
 
 ghost use Rattle.express_syntax.specs.Words.{name};
 ghost use Rattle.express_syntax.specs.Trees.{
@@ -9,15 +9,15 @@ ghost use Rattle.express_syntax.specs.Trees.{
   word_of_junction,
 };
 ghost use Rattle.express_syntax.specs.ExpressionViews.{capitals, number_of};
-ghost use Rattle.express_expressions.specs.Pieces.{Spells};
+ghost use Rattle.express_expressions.specs.steps.Pieces.{Spells};
 
-use express_lexis::marks::Mark;
+use express_lexer::marks::Mark;
 use express_syntax::expression::{Junction, Limit, Number, Relation, Sign};
 use express_syntax::keyword::Keyword;
 use express_syntax::lexeme::Lexeme;
 use step_literals::literal::Word;
 
-/// The number that it is, if it is one.
+/// Returns the number that the lexeme is, if any.
 pub(crate) fn number_at(lexeme: Lexeme<'_>) -> Option<Number<'_>>
     ensures { Spells word_of_number number_of lexeme.entry result }
 {
@@ -28,7 +28,7 @@ pub(crate) fn number_at(lexeme: Lexeme<'_>) -> Option<Number<'_>>
     }
 }
 
-/// The name that it is, if it is one.
+/// Returns the name that the lexeme is, if any.
 pub(crate) fn name_at(lexeme: Lexeme<'_>) -> Option<Word<'_>>
     ensures { Spells name capitals lexeme.entry result }
 {
@@ -38,7 +38,7 @@ pub(crate) fn name_at(lexeme: Lexeme<'_>) -> Option<Word<'_>>
     }
 }
 
-/// The sign that it is, if it is one.
+/// Returns the sign that the lexeme is, if any.
 pub(crate) fn sign_at(lexeme: Lexeme<'_>) -> Option<Sign>
     ensures { Spells word_of_sign (λ s. s) lexeme.entry result }
 {
@@ -49,7 +49,7 @@ pub(crate) fn sign_at(lexeme: Lexeme<'_>) -> Option<Sign>
     }
 }
 
-/// The relation that it is, if it is one.
+/// Returns the relation that the lexeme is, if any.
 pub(crate) fn relation_at(lexeme: Lexeme<'_>) -> Option<Relation>
     ensures { Spells word_of_relation (λ r. r) lexeme.entry result }
 {
@@ -65,7 +65,7 @@ pub(crate) fn relation_at(lexeme: Lexeme<'_>) -> Option<Relation>
     }
 }
 
-/// The relation to an end of an interval that it is, if it is one.
+/// Returns the relation to an end of an interval that the lexeme is, if any.
 pub(crate) fn limit_at(lexeme: Lexeme<'_>) -> Option<Limit>
     ensures { Spells word_of_limit (λ l. l) lexeme.entry result }
 {
@@ -76,7 +76,7 @@ pub(crate) fn limit_at(lexeme: Lexeme<'_>) -> Option<Limit>
     }
 }
 
-/// OR or XOR, if it is one of them.
+/// Returns OR or XOR if the lexeme is one of them.
 pub(crate) fn junction_at(lexeme: Lexeme<'_>) -> Option<Junction>
     ensures { Spells word_of_junction (λ j. j) lexeme.entry result }
 {

@@ -13,8 +13,8 @@ use Rattle.express_syntax.specs.declared.expression.Logical.{Logical}
 use Rattle.express_syntax.specs.declared.expression.Logical.TheVariants.{False, Unknown, True}
 use Rattle.express_logic.specs.Logic.{either, known, rank}
 use Rattle.express_logic.specs.Data.{Datum, aggregate, Data, none, more}
-use Rattle.express_logic.specs.Comparing.{Scalar, a_number, a_text, some_bits, an_element, a_logical, scalar, same_item, same_text, same_bits, equal_scalars, less_scalars, equal, among, member}
-use Rattle.express_logic.specs.Laws.{LogicHasItsOrder, IsOneKind, IsSame, EqualValuesAreTheSame, HaveOrder, IsBelow, LesserValuesAreBelow, IsElement, MembersAreEqualElements}
+use Rattle.express_logic.specs.Comparison.{Scalar, a_number, a_text, some_bits, an_element, a_logical, scalar, same_item, same_text, same_bits, equal_scalars, less_scalars, equal, among, member}
+use Rattle.express_logic.specs.Laws.{LogicHasItsOrder, IsOneKind, IsSame, EqualValuesAreTheSame, HaveOrder, IsLessScalar, LesserValuesAreBelow, IsOneOf, MembersAreEqualElements}
 use Rattle.express_logic.proofs.Ordered.{less_told}
 
 pub logic_order : LogicHasItsOrder
@@ -104,7 +104,7 @@ int_lt_decides x y = (
   λ h. sym (less_told x y) ∙ ap is_lt (sym (int_cmp_is x y Less h)),
 )
 
-less_told_by : (s t : Scalar) → ((less_scalars s t ≡ True) ↔ IsBelow s t)
+less_told_by : (s t : Scalar) → ((less_scalars s t ≡ True) ↔ IsLessScalar s t)
     × ((less_scalars s t ≡ Unknown) ↔ (HaveOrder s t → ⊥))
 less_told_by (a_number y) (a_number z) = below_told (int_lt y z) tt (int_lt_decides y z)
 less_told_by (a_logical p) (a_logical q) =
@@ -142,26 +142,26 @@ either_true False = refl
 either_true Unknown = refl
 either_true True = refl
 
-found_in : (d x : Datum) (es : Data) → (among d es ≡ True → (e : Datum) × IsElement e es × (equal d e ≡ True))
-    → (equal d x ≡ True) ⊎ (among d es ≡ True) → (e : Datum) × IsElement e (more x es) × (equal d e ≡ True)
+found_in : (d x : Datum) (es : Data) → (among d es ≡ True → (e : Datum) × IsOneOf e es × (equal d e ≡ True))
+    → (equal d x ≡ True) ⊎ (among d es ≡ True) → (e : Datum) × IsOneOf e (more x es) × (equal d e ≡ True)
 found_in d x es rest (inl k) = (x, inl refl, k)
 found_in d x es rest (inr k) = let r = rest k in (r.0, inr r.1, r.2)
 
-find : (d : Datum) (es : Data) → among d es ≡ True → (e : Datum) × IsElement e es × (equal d e ≡ True)
+find : (d : Datum) (es : Data) → among d es ≡ True → (e : Datum) × IsOneOf e es × (equal d e ≡ True)
 find d none h = absurd (cc)
 find d (more x es) h = found_in d x es (λ k. find d es k) (either_is_true (equal d x) (among d es) h)
 
-found : (d : Datum) (es : Data) (e : Datum) → IsElement e es → equal d e ≡ True → among d es ≡ True
+found : (d : Datum) (es : Data) (e : Datum) → IsOneOf e es → equal d e ≡ True → among d es ≡ True
 found d none e m k = absurd m
 found d (more x es) e (inl q) k = ap (λ p. either p (among d es)) (ap (equal d) (sym q) ∙ k)
 found d (more x es) e (inr m) k = ap (either (equal d x)) (found d es e m k) ∙ either_true (equal d x)
 
-each : (d : Datum) (es : Data) → among d es ≡ False → (e : Datum) → IsElement e es → equal d e ≡ False
+each : (d : Datum) (es : Data) → among d es ≡ False → (e : Datum) → IsOneOf e es → equal d e ≡ False
 each d none h e m = absurd m
 each d (more x es) h e (inl q) = ap (equal d) q ∙ (either_is_false (equal d x) (among d es) h).0
 each d (more x es) h e (inr m) = each d es (either_is_false (equal d x) (among d es) h).1 e m
 
-none_found : (d : Datum) (es : Data) → ((e : Datum) → IsElement e es → equal d e ≡ False) → among d es ≡ False
+none_found : (d : Datum) (es : Data) → ((e : Datum) → IsOneOf e es → equal d e ≡ False) → among d es ≡ False
 none_found d none f = refl
 none_found d (more x es) f =
     let rest = none_found d es (λ e m. f e (inr m)) in λ i. either (f x (inl refl) i) (rest i)

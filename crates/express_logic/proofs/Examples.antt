@@ -7,7 +7,7 @@ use Rattle.express_syntax.specs.declared.expression.Logical.TheVariants.{False, 
 use Rattle.express_logic.specs.Logic.{negated, both, either, exclusive, known}
 use Rattle.express_logic.specs.Literals.{encoded_characters, binary_bits, whole_units}
 use Rattle.express_logic.specs.Data.{indeterminate, number, text, element, logical, instance, typed, aggregate, list, bag, none, more, truth}
-use Rattle.express_logic.specs.Comparing.{equal, less, member}
+use Rattle.express_logic.specs.Comparison.{equal, less, member}
 
 -- the tables where a side is UNKNOWN
 
@@ -67,7 +67,7 @@ strings_differ = refl
 no_order_of_strings : less (text (Code 97 ∷ [])) (text (Code 98 ∷ [])) ≡ Unknown
 no_order_of_strings = refl
 
--- .. nor have elements of enumerations
+-- elements of enumerations have no order
 same_elements : equal (element (codes "ROUGH")) (element (codes "ROUGH")) ≡ True
 same_elements = refl
 

@@ -4,11 +4,11 @@ use Rattle.express_syntax.specs.declared.expression.Logical.{Logical}
 use Rattle.express_syntax.specs.declared.expression.Logical.TheVariants.{Unknown}
 use Rattle.express_logic.specs.declared.datum.Datum.{Datum}
 use Rattle.express_logic.specs.declared.datum.Datum.TheVariants.{Indeterminate}
-use Rattle.express_logic.specs.Comparing.{Scalar, scalar, among, member}
+use Rattle.express_logic.specs.Comparison.{Scalar, scalar, among, member}
 use Rattle.express_logic.specs.Data.{aggregate, Shape, Data, is_known}
 use Rattle.express_logic.specs.Data as data_of
 use Rattle.express_logic.specs.Holdings.{Holding}
-use Rattle.express_logic.specs.Steps.{among_scalars}
+use Rattle.express_logic.specs.steps.Steps.{among_scalars}
 use Rattle.express_logic.specs.Views.{datum_of}
 use Rattle.express_logic.proofs.Walks.{among_is}
 

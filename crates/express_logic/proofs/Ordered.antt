@@ -6,7 +6,7 @@ use Rattle.std.proofs.lemmas.Int.{ints}
 use Rattle.std.proofs.Math.Nat.{mul-lt-mul_of_pos_right}
 use Rattle.step_literals.specs.Decimals.{units, exponent, ten_to, finest}
 use Rattle.step_literals.specs.Literals.{IsDecimal}
-use Rattle.step_literals.specs.MagnitudeLemmas.{ten_pos}
+use Rattle.step_literals.specs.steps.MagnitudeLemmas.{ten_pos}
 use Rattle.step_literals.proofs.UnitLemmas.{times_pos}
 use Rattle.express_logic.specs.Literals.{whole_units}
 

@@ -7,9 +7,9 @@ use Rattle.std.proofs.Math.Logic.{∥∥₁_elim}
 use Rattle.std.proofs.Math.Seq.{take-append_seam}
 use Rattle.step_literals.specs.Tokens.{doubled}
 use Rattle.step_literals.specs.Strings.{content_of}
-use Rattle.express_lexis.specs.Tokens.{Spells, string, encoded, binary}
-use Rattle.express_lexis.specs.Doubled.{undoubled}
-use Rattle.express_lexis.specs.Meanings.{simple_text, characters_of, encoded_text, codes_of}
+use Rattle.express_lexer.specs.Tokens.{Spells, string, encoded, binary}
+use Rattle.express_lexer.specs.DoubledApostrophes.{undoubled}
+use Rattle.express_lexer.specs.Meanings.{simple_text, characters_of, encoded_text, codes_of}
 use Rattle.express_logic.specs.Laws.{LiteralsSayTheirContent}
 
 -- what stands between the first byte and the last

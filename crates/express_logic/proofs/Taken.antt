@@ -5,8 +5,8 @@ use Rattle.std.specs.Char.{to_ascii_uppercase}
 use Rattle.step_literals.specs.Words.{upper}
 use Rattle.step_literals.specs.declared.literal.items.Item.{Item}
 use Rattle.step_literals.specs.declared.literal.items.Item.TheVariants.{Code}
-use Rattle.express_logic.specs.Comparing.{same_text}
-use Rattle.express_logic.specs.Taking.{of_codes, Takes}
+use Rattle.express_logic.specs.Comparison.{same_text}
+use Rattle.express_logic.specs.steps.Taking.{of_codes, Takes}
 
 parted : (cs ds : List ℕ) (rest : List Item) → of_codes (cs ++ ds) ++ rest ≡ of_codes cs ++ (of_codes ds ++ rest)
 parted cs ds rest =
@@ -23,7 +23,7 @@ takes_all : (old new : List Item) (answer : Bool) (cs : List ℕ) → Takes cs o
     → (answer && same_text new []) ≡ same_text old (of_codes cs)
 takes_all old new answer cs t = sym (t []) ∙ ap (same_text old) (append-nil (of_codes cs))
 
--- .. behind one that isn't there
+-- a text fails to begin with two parts if it fails to begin with the first
 stops : (old middle new : List Item) (cs ds : List ℕ) → Takes cs old middle false → Takes (cs ++ ds) old new false
 stops old middle new cs ds t rest = ap (same_text old) (parted cs ds rest) ∙ t (of_codes ds ++ rest)
 

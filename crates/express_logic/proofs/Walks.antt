@@ -4,9 +4,9 @@ use Rattle.express_syntax.specs.declared.expression.Logical.{Logical}
 use Rattle.express_syntax.specs.declared.expression.Logical.TheVariants.{False, Unknown, True}
 use Rattle.express_logic.specs.Logic.{either}
 use Rattle.express_logic.specs.Data.{Datum, Data, none, more}
-use Rattle.express_logic.specs.Comparing.{Scalar, scalar, equal_scalars, among}
+use Rattle.express_logic.specs.Comparison.{Scalar, scalar, equal_scalars, among}
 use Rattle.express_logic.specs.Holdings.{size_of, element_at}
-use Rattle.express_logic.specs.Steps.{equal_in, among_scalars}
+use Rattle.express_logic.specs.steps.Steps.{equal_in, among_scalars}
 
 -- the elements behind the first n
 abbrev pub behind : ℕ → Data → Data

@@ -7,7 +7,7 @@ use Rattle.std.proofs.lemmas.Iterator.{YieldsList}
 use Rattle.step_literals.specs.declared.literal.items.Item.{Item}
 use Rattle.step_literals.specs.declared.literal.items.Item.TheVariants.{Code, Page, Raw}
 use Rattle.step_literals.specs.contracts.literal.items.ItemPartialEq.TheImpl.{ghosts as items}
-use Rattle.express_logic.specs.Comparing.{same_item}
+use Rattle.express_logic.specs.Comparison.{same_item}
 
 module _ {S T A B : Type 0} (steps : S → Option A → S → Type 0) (others : T → Option A → T → Type 0) (v : A → B) (eq : A → A → Bool) (E : B → B → Bool) (agree : (x y : A) → eq x y ≡ E (v x) (v y)) (r : Bool) where
   -- what `eq` says of the two answers at which it ends

@@ -1,16 +1,19 @@
--- What an expression may be worth (ISO 10303-11, 8 and 12): literals by their values, instances by their names.
+-- Values of expressions (ISO 10303-11, 8 and 12): literals by their values, instances by their
+-- names.
 use Rattle.std.specs.Prelude.{ℕ, ℤ, Bool, true, false, List, Option}
 use Rattle.step_literals.specs.declared.literal.items.Item.{Item}
 use Rattle.express_syntax.specs.declared.expression.Logical.{Logical}
 use Rattle.express_syntax.specs.declared.expression.Logical.TheVariants.{Unknown}
 
--- a LIST; a SET or a BAG; an ARRAY of these declared indices, none where an index isn't known
+-- `list`: a LIST. `bag`: a SET or a BAG. `array`: an ARRAY with these declared indices; an index is
+-- `None` if it isn't known.
 pub data Shape : Type 0 where
   list : Shape
   bag : Shape
   array : Option ℤ → Option ℤ → Shape
 
--- a number in units of 10 ^ -1,000,400; an element of an enumeration in upper case; a value with the name of its type
+-- `number`: a number in units of 10 ^ -1,000,400. `element`: an element of an enumeration in upper
+-- case. `typed`: a value with the name of its type.
 mutual
   pub data Datum : Type 0 where
     indeterminate : Datum
@@ -31,7 +34,7 @@ abbrev pub is_known : Datum → Bool
 is_known indeterminate = false
 is_known _ = true
 
--- what it says as an operand of NOT, AND, OR and XOR, and as a condition: UNKNOWN where it is no logical
+-- the value as an operand of NOT, AND, OR and XOR, and as a condition: UNKNOWN if it is no logical
 abbrev pub truth : Datum → Logical
 truth (logical p) = p
 truth _ = Unknown

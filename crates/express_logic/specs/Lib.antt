@@ -1,10 +1,8 @@
 pub mod Logic
 pub mod Literals
 pub mod Data
-pub mod Comparing
+pub mod Comparison
 pub mod Holdings
 pub mod Views
 pub mod Laws
-pub mod Left
-pub mod Taking
-pub mod Steps
+pub mod steps

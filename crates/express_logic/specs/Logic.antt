@@ -9,28 +9,28 @@ negated False = True
 negated Unknown = Unknown
 negated True = False
 
--- AND (12.4.2): FALSE where a side is, TRUE where both are
+-- AND (12.4.2): FALSE if a side is FALSE, TRUE if both sides are TRUE
 abbrev pub both : Logical → Logical → Logical
 both False _ = False
 both _ False = False
 both True True = True
 both _ _ = Unknown
 
--- OR (12.4.3): TRUE where a side is, FALSE where both are
+-- OR (12.4.3): TRUE if a side is TRUE, FALSE if both sides are FALSE
 abbrev pub either : Logical → Logical → Logical
 either True _ = True
 either _ True = True
 either False False = False
 either _ _ = Unknown
 
--- XOR (12.4.4): UNKNOWN where a side is
+-- XOR (12.4.4): UNKNOWN if a side is UNKNOWN
 abbrev pub exclusive : Logical → Logical → Logical
 exclusive Unknown _ = Unknown
 exclusive _ Unknown = Unknown
 exclusive True p = negated p
 exclusive False p = p
 
--- what is known to hold, or not to hold
+-- TRUE if the condition holds, otherwise FALSE
 abbrev pub known : Bool → Logical
 known holds = if holds then True else False
 

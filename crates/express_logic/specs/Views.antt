@@ -1,4 +1,4 @@
--- The values that the program's values are.
+-- The values that the types of the program represent.
 use Rattle.std.specs.Prelude.{ℤ, Bool, List, neg_ℤ}
 use Rattle.step_literals.specs.Bits.{bits_of}
 use Rattle.step_literals.specs.Decimals.{units, turned}
@@ -17,10 +17,10 @@ use Rattle.express_logic.specs.declared.strings.AnyString.{AnyString}
 use Rattle.express_logic.specs.declared.strings.AnyString.TheVariants as strings
 use Rattle.express_logic.specs.Literals.{simple_characters, encoded_characters, binary_bits, whole_units}
 use Rattle.express_logic.specs.Data as data_of
-use Rattle.express_logic.specs.Comparing as of
+use Rattle.express_logic.specs.Comparison as of
 use Rattle.express_logic.specs.Holdings.{Holding}
 
--- what a number is worth, in units
+-- the value of a number, in units
 abbrev pub worth : AnyNumber → ℤ
 worth (numbers.Written d is_negated) = turned is_negated (units d.text.now)
 worth (numbers.Count n) = whole_units n
@@ -42,7 +42,7 @@ scalar_of (scalars.Element w) = of.an_element (upper w.text.now)
 scalar_of (scalars.Logical p) = of.a_logical p
 scalar_of scalars.Nothing = of.nothing
 
--- what an expression is worth, where it is known what is held
+-- the value of an expression, if `held` maps each holder to its content
 abbrev pub datum_of : {V : Type 0} → (V → Holding) → Datum V → data_of.Datum
 datum_of held variants.Indeterminate = data_of.indeterminate
 datum_of held (variants.Number d) = data_of.number (units d.text.now)

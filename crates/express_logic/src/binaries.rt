@@ -2,11 +2,11 @@
 
 ghost use Rattle.std.specs.Prelude.{◌≡◌};
 ghost use Rattle.step_literals.specs.Bits.{bits_of};
-ghost use Rattle.express_logic.specs.Comparing.{same_bits};
+ghost use Rattle.express_logic.specs.Comparison.{same_bits};
 ghost use Rattle.express_logic.specs.Literals.{binary_bits};
 ghost use Rattle.express_logic.specs.Views.{bits_of_any};
 
-use express_lexis::literal::Binary;
+use express_lexer::literal::Binary;
 use step_literals::literal::Bits;
 
 /// A binary, of an exchange structure or of a schema.
@@ -16,7 +16,7 @@ pub enum AnyBinary<'a> {
     Schema(Binary<'a>),
 }
 
-/// Whether two binaries have the same bits.
+/// Whether two binaries have equal bits.
 pub(crate) fn same_binary(a: &AnyBinary<'_>, b: &AnyBinary<'_>) -> bool
     ensures { result ≡ same_bits (bits_of_any a.now) (bits_of_any b.now) }
 {
@@ -28,7 +28,7 @@ pub(crate) fn same_binary(a: &AnyBinary<'_>, b: &AnyBinary<'_>) -> bool
     }
 }
 
-/// Whether a binary of an exchange structure has the bits of one of a schema.
+/// Whether a binary of an exchange structure and a binary of a schema have equal bits.
 fn has_bits_of(bits: &Bits<'_>, binary: &Binary<'_>) -> bool
     ensures { result ≡ same_bits (bits_of bits.now.text.now) (binary_bits binary.now.text.now) }
 {
@@ -44,7 +44,7 @@ fn has_bits_of(bits: &Bits<'_>, binary: &Binary<'_>) -> bool
     bits.bit(digits.len()).is_none()
 }
 
-/// Whether two binaries of a schema have the same bits.
+/// Whether two binaries of a schema have equal bits.
 fn same_digits(a: &Binary<'_>, b: &Binary<'_>) -> bool
     ensures { result ≡ same_bits (binary_bits a.now.text.now) (binary_bits b.now.text.now) }
 {

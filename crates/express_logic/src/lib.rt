@@ -1,11 +1,11 @@
 //! Values of expressions of EXPRESS (ISO 10303-11, 12): three-valued logic, comparison and
 //! membership.
 //!
-//! Nothing here takes memory: literals are slices of the texts that they stand in.
+//! Nothing here allocates: literals are slices of the texts that contain them.
 #![tactic(auto)]
 
 pub mod binaries;
-pub mod compare;
+pub mod comparison;
 pub mod datum;
 pub mod laws;
 pub mod logical;

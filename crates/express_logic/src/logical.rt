@@ -5,7 +5,7 @@ ghost use Rattle.express_logic.specs.Logic.{negated, both, either, exclusive, kn
 
 pub use express_syntax::expression::Logical;
 
-/// NOT (ISO 10303-11, 12.4.1).
+/// Returns NOT `p` (ISO 10303-11, 12.4.1).
 pub fn not(p: Logical) -> Logical
     ensures { result ≡ negated p }
 {
@@ -16,7 +16,7 @@ pub fn not(p: Logical) -> Logical
     }
 }
 
-/// AND (ISO 10303-11, 12.4.2).
+/// Returns `p` AND `q` (ISO 10303-11, 12.4.2).
 pub fn and(p: Logical, q: Logical) -> Logical
     ensures { result ≡ both p q }
 {
@@ -27,7 +27,7 @@ pub fn and(p: Logical, q: Logical) -> Logical
     }
 }
 
-/// OR (ISO 10303-11, 12.4.3).
+/// Returns `p` OR `q` (ISO 10303-11, 12.4.3).
 pub fn or(p: Logical, q: Logical) -> Logical
     ensures { result ≡ either p q }
 {
@@ -38,7 +38,7 @@ pub fn or(p: Logical, q: Logical) -> Logical
     }
 }
 
-/// XOR (ISO 10303-11, 12.4.4).
+/// Returns `p` XOR `q` (ISO 10303-11, 12.4.4).
 pub fn xor(p: Logical, q: Logical) -> Logical
     ensures { result ≡ exclusive p q }
 {
@@ -49,14 +49,14 @@ pub fn xor(p: Logical, q: Logical) -> Logical
     }
 }
 
-/// TRUE where something holds, FALSE where it doesn't.
+/// Returns TRUE if the condition holds, otherwise FALSE.
 pub fn known(holds: bool) -> Logical
     ensures { result ≡ known holds }
 {
     if holds { Logical::True } else { Logical::False }
 }
 
-/// Where a value stands in the order FALSE < UNKNOWN < TRUE (ISO 10303-11, 12.2.1.3).
+/// Returns the position of a value in the order FALSE < UNKNOWN < TRUE (ISO 10303-11, 12.2.1.3).
 pub(crate) fn rank(p: Logical) -> u8
     ensures { result ≡ rank p }
 {

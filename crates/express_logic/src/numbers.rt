@@ -1,4 +1,4 @@
-//! Numbers, compared by what they are worth (ISO 10303-11, 12.2.1.1).
+//! Numbers, compared by value (ISO 10303-11, 12.2.1.1).
 
 ghost use Rattle.std.specs.Prelude.{◌≡◌};
 ghost use Rattle.std.specs.Ordering.{int_cmp};
@@ -9,10 +9,10 @@ ghost use Rattle.express_logic.specs.Views.{worth};
 use std::cmp::Ordering;
 use step_literals::literal::Decimal;
 
-/// A number, spelt or counted.
+/// A number, spelled or counted.
 #[derive(Clone, Copy)]
 pub enum AnyNumber<'a> {
-    /// As it is spelt, behind a further minus where it is negated.
+    /// The value of the spelling, negated if `is_negated`.
     Written {
         decimal: Decimal<'a>,
         is_negated: bool,
@@ -20,7 +20,7 @@ pub enum AnyNumber<'a> {
     Count(i64),
 }
 
-/// Compares what two numbers are worth.
+/// Compares the values of two numbers.
 pub(crate) fn compare_numbers(a: &AnyNumber<'_>, b: &AnyNumber<'_>) -> Ordering
     ensures { result ≡ int_cmp (worth a.now) (worth b.now) }
 {
@@ -53,7 +53,7 @@ pub(crate) fn compare_numbers(a: &AnyNumber<'_>, b: &AnyNumber<'_>) -> Ordering
     }
 }
 
-/// Compares a number, negated where that is asked for, with a count.
+/// Compares a number, negated if `is_negated`, with a count.
 fn compare_with_count(decimal: &Decimal<'_>, is_negated: bool, count: i64) -> Ordering
     ensures { result ≡
         int_cmp (turned is_negated (units decimal.now.text.now)) (whole_units count) }
@@ -67,7 +67,7 @@ fn compare_with_count(decimal: &Decimal<'_>, is_negated: bool, count: i64) -> Or
     decimal.compare_whole(-count).reverse()
 }
 
-/// The least count as a number, since it has no negative among the counts.
+/// Returns the least count as a number, since its negative isn't a count.
 fn least_count() -> Decimal<'static>
     ensures { units result.text.now ≡ whole_units i64.MIN }
 {

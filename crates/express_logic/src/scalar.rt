@@ -1,7 +1,7 @@
-//! What values are compared by (ISO 10303-11, 12.2.1).
+//! The parts of values that are compared (ISO 10303-11, 12.2.1).
 
 ghost use Rattle.std.specs.Prelude.{◌≡◌};
-ghost use Rattle.express_logic.specs.Comparing.{equal_scalars, less_scalars};
+ghost use Rattle.express_logic.specs.Comparison.{equal_scalars, less_scalars};
 ghost use Rattle.express_logic.specs.Views.{scalar_of};
 
 use crate::binaries::{AnyBinary, same_binary};
@@ -10,7 +10,7 @@ use crate::numbers::{AnyNumber, compare_numbers};
 use crate::strings::{AnyString, same_string};
 use step_literals::literal::Word;
 
-/// What a value is compared by.
+/// The part of a value that is compared.
 #[derive(Clone, Copy)]
 pub enum Scalar<'a> {
     Number(AnyNumber<'a>),
@@ -19,7 +19,7 @@ pub enum Scalar<'a> {
     /// An element of an enumeration.
     Element(Word<'a>),
     Logical(Logical),
-    /// That of an indeterminate value, an instance or an aggregate.
+    /// An indeterminate value, an instance or an aggregate has no such part.
     Nothing,
 }
 

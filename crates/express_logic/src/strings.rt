@@ -4,13 +4,13 @@ ghost use Rattle.std.specs.Prelude.{◌≡◌, ℕ, [], ◌∷◌, ◌++◌, map
 ghost use Rattle.std.specs.Iterator.{YieldsFirst, item_count};
 ghost use Rattle.step_literals.specs.Words.{upper};
 ghost use Rattle.step_literals.specs.declared.literal.items.Item.TheVariants.{Code};
-ghost use Rattle.express_logic.specs.Comparing.{same_text};
+ghost use Rattle.express_logic.specs.Comparison.{same_text};
 ghost use Rattle.express_logic.specs.Views.{text_of};
-ghost use Rattle.express_logic.specs.Left.{characters_left};
-ghost use Rattle.express_logic.specs.Taking.{Takes};
+ghost use Rattle.express_logic.specs.steps.Left.{characters_left};
+ghost use Rattle.express_logic.specs.steps.Taking.{Takes};
 
-use express_lexis::literal;
-use express_lexis::literal::{Codes, EncodedString, SimpleString};
+use express_lexer::literal;
+use express_lexer::literal::{Codes, EncodedString, SimpleString};
 use step_literals::literal::{Item, Items, Text, Word};
 
 /// A string, of an exchange structure or of a schema.
@@ -21,7 +21,7 @@ pub enum AnyString<'a> {
     Encoded(EncodedString<'a>),
 }
 
-/// The characters of a string in turn.
+/// An iterator over the characters of a string.
 #[derive(Drop)]
 enum Characters<'a> {
     Exchange(Items<'a>),
@@ -56,7 +56,7 @@ impl<'a> AnyString<'a> {
         }
     }
 
-    /// Whether a string has the letters of two names in capitals, with a point between them.
+    /// Whether the string consists of two names in capitals with a point between them.
     pub fn is_dotted(&self, first: Word<'_>, second: Word<'_>) -> bool
         ensures { result ≡ same_text (text_of self.now) (map (λ (c : ℕ). Code c)
             (upper first.entry.text.now ++ 46 ∷ upper second.entry.text.now)) }
@@ -69,7 +69,7 @@ impl<'a> AnyString<'a> {
     }
 }
 
-/// Whether the next character has this code.
+/// Takes the next character and returns whether it has this code.
 fn takes_code(characters: &mut Characters<'_>, code: u8) -> bool
     ensures { Takes (code ∷ []) (characters_left characters.old) (characters_left characters.new)
         result }
@@ -80,7 +80,8 @@ fn takes_code(characters: &mut Characters<'_>, code: u8) -> bool
     }
 }
 
-/// Whether the next characters are the letters of a name in capitals.
+/// Takes the next characters, as far as they are those of a name in capitals. Returns whether the
+/// whole name is there.
 fn takes_name(characters: &mut Characters<'_>, name: Word<'_>) -> bool
     ensures { Takes (upper name.entry.text.now) (characters_left characters.old)
         (characters_left characters.new) result }
@@ -93,7 +94,8 @@ fn takes_name(characters: &mut Characters<'_>, name: Word<'_>) -> bool
     true
 }
 
-/// Whether the next characters are the letters of two names in capitals, with a point between them.
+/// Takes the next characters, as far as they are those of two names in capitals with a point
+/// between them. Returns whether all of them are there.
 fn takes_dotted(characters: &mut Characters<'_>, first: Word<'_>, second: Word<'_>) -> bool
     ensures { Takes (upper first.entry.text.now ++ 46 ∷ upper second.entry.text.now)
         (characters_left characters.old) (characters_left characters.new) result }
@@ -107,7 +109,7 @@ fn takes_dotted(characters: &mut Characters<'_>, first: Word<'_>, second: Word<'
     takes_name(characters, second)
 }
 
-/// Whether two strings have the same characters.
+/// Whether two strings have equal characters.
 pub(crate) fn same_string(a: &AnyString<'_>, b: &AnyString<'_>) -> bool
     ensures { result ≡ same_text (text_of a.now) (text_of b.now) }
 {

@@ -9,8 +9,8 @@ use Rattle.std.specs.Char.{to_ascii_lowercase}
 use Rattle.std.specs.Prelude.{◌↔◌, IsTrue}
 use Rattle.step_literals.specs.Words.{upper}
 use Rattle.step_literals.proofs.CaseLemmas.{same_without_case}
-use Rattle.express_lexis.specs.declared.marks.Mark.TheVariants as marks
-use Rattle.express_lexis.specs.Reading.{Reading}
+use Rattle.express_lexer.specs.declared.marks.Mark.TheVariants as marks
+use Rattle.express_lexer.specs.Reading.{Reading}
 use Rattle.express_syntax.specs.declared.keyword.Keyword.TheVariants as keywords
 use Rattle.express_syntax.specs.declared.lexeme.Lexeme.{Lexeme}
 use Rattle.express_syntax.specs.Words.{Word, keyword, name, integer, mark, word_of, words_of}
@@ -18,17 +18,17 @@ use Rattle.express_syntax.specs.Grammar.{depth_limit}
 use Rattle.express_syntax.specs.declared.fault.FaultKind.TheVariants as fault_kinds
 use Rattle.express_syntax.specs.declared.fault.SyntaxFault.{SyntaxFault}
 use Rattle.express_syntax.specs.declared.fault.SyntaxFault.TheVariants as faults
-use Rattle.express_runs.specs.declared.runs.Buffer.{Buffer}
+use Rattle.express_token_runs.specs.declared.runs.Buffer.{Buffer}
 use Rattle.express_syntax.specs.Runs.{Run, words_of_run, FitsRun, IsSome}
 use Rattle.express_syntax.specs.Schemas.{Bound, other_bound, Bounds, Width, width, other_width, Supertype, of_other}
 use Rattle.express_syntax.specs.declared.tree.Supertype as code
 use Rattle.express_syntax.specs.Views.{supertype_of}
-use Rattle.express_syntax.specs.Written.{with_commas, words_of_name, words_of_names, words_of_bound, words_of_bounds, words_of_width, words_of_expression, words_of_supertype}
+use Rattle.express_syntax.specs.WrittenSchemas.{with_commas, words_of_name, words_of_names, words_of_bound, words_of_bounds, words_of_width, words_of_expression, words_of_supertype}
 use Rattle.express_syntax.specs.Profile.{IsFilled, IsBoundText, IsSupertypeText, FitsBound, FitsBounds, FitsWidth, FitsSupertype}
 use Rattle.express_syntax.specs.Texts.{Lookahead, token, LocatedToken, Shows}
-use Rattle.express_syntax.specs.Predict.{RunEnd, in_lower, in_upper, in_parentheses, Symbol, Running, Say, BoundsOrOf, bounds_symbols, next, refused, is_mark, is_keyword}
-use Rattle.express_syntax.specs.Steps.{Passes, StopsIn}
-use Rattle.express_runs.specs.OpenRuns.{brackets_of, may_of, end_of, Gathered}
+use Rattle.express_syntax.specs.steps.Predict.{RunEnd, in_lower, in_upper, in_parentheses, Symbol, Running, Say, BoundsOrOf, bounds_symbols, next, refused, is_mark, is_keyword}
+use Rattle.express_syntax.specs.steps.Steps.{Passes, StopsIn}
+use Rattle.express_token_runs.specs.steps.OpenRuns.{brackets_of, may_of, end_of, Gathered}
 use Rattle.express_syntax.specs.Runs.{has_some}
 use Rattle.express_syntax.proofs.Turning.{stops_shown}
 use Rattle.express_syntax.proofs.Taking.{passes_as, passes_join, passes_more, passes_then, passes_token, passes_first, stops_behind, stops_first}
@@ -187,7 +187,7 @@ pub names_short : (words : List Word) (names : List (List ℕ)) (left : List Lex
     → words ≡ words_of_names ns → ⊥
 names_short words names left so h ns f e = short_rest left h (so.rest ns f e)
 
--- .. nor are those that begin with another word than a name
+-- lexemes that begin with another word than a name are no rest of names
 pub names_other : (words : List Word) (names : List (List ℕ)) (u : Word) (left : List Word)
     → NamesSoFar words names (u ∷ left) → ((n : List ℕ) → u ≡ name n → ⊥) → (ns : List (List ℕ)) → IsFilled ns
     → words ≡ words_of_names ns → ⊥
@@ -220,7 +220,7 @@ pub bounds_err_upper : (e : SyntaxFault) (n : ℕ) (lower : Bound) (old mid : Re
 bounds_err_upper e n lower old mid h g = stops_behind e (Running in_upper (n + 1) [] false ∷ []) (Say keywords.Of ∷ [])
     (passes_more (Running in_upper (n + 1) [] false ∷ Say keywords.Of ∷ []) h.1) g
 
--- .. and what stands in the place of OF
+-- another token where OF is expected stops all
 pub bounds_err_of : (e : SyntaxFault) (n : ℕ) (lower upper : Bound) (old mid end : Reading)
     → ReadsBound in_lower (n + 1) lower old mid → ReadsBound in_upper (n + 1) upper mid end
     → StopsIn e (Say keywords.Of ∷ []) [] end → StopsIn e (bounds_symbols n) [] old
@@ -328,7 +328,7 @@ width_known n ls r t old new lt h e = (
   h.3,
 )
 
--- .. and any others
+-- tokens that aren't one integer
 pub width_other : (n : ℕ) (ls : List Lexeme) (r : Run) (old new : Reading) → n < depth_limit
     → Whole in_parentheses (n + 1) ls r old new → ((t : List ℕ) → words_of ls ≡ integer t ∷ [] → ⊥)
     → ReadsWidth n (other_width r) old new
@@ -356,7 +356,7 @@ pub supertype_known : (ls : List Lexeme) (r : Run) (s : Supertype) (old new : Re
     → ReadsSupertype s old new
 supertype_known ls r s old new h f e = (f, words_of ls ++ mark marks.Close ∷ [], e, h.3)
 
--- .. and any others
+-- tokens that have no tree
 pub supertype_other : (ls : List Lexeme) (r : Run) (old new : Reading) → Whole in_parentheses 1 ls r old new
     → (IsSupertypeText (words_of ls) → ⊥) → ReadsSupertype (of_other r) old new
 supertype_other ls r old new h g =

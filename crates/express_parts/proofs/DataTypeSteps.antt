@@ -2,8 +2,8 @@
 use Rattle.std.proofs.Common.{◌≡◌, ℕ, ◌+◌, ◌<◌, ◌≤◌, Bool, true, false, List, [], ◌∷◌, ◌++◌, Result, Ok, Err, Option, None, Some, MatchResult, refl, sym, ap, ◌∙◌, subst, append_assoc, append-nil, arith, nat_lt}
 use Rattle.std.proofs.lemmas.Bool.{false≢true}
 use Rattle.std.proofs.lemmas.Bool.Decides.{nat_tests}
-use Rattle.express_lexis.specs.declared.marks.Mark.TheVariants as marks
-use Rattle.express_lexis.specs.Reading.{Reading}
+use Rattle.express_lexer.specs.declared.marks.Mark.TheVariants as marks
+use Rattle.express_lexer.specs.Reading.{Reading}
 use Rattle.express_syntax.specs.declared.keyword.Keyword.{Keyword}
 use Rattle.express_syntax.specs.declared.keyword.Keyword.TheVariants as keywords
 use Rattle.express_syntax.specs.Words.{Word, keyword, mark}
@@ -13,11 +13,11 @@ use Rattle.express_syntax.specs.declared.fault.SyntaxFault.{SyntaxFault}
 use Rattle.express_syntax.specs.declared.fault.SyntaxFault.TheVariants as faults
 use Rattle.express_syntax.specs.Texts.{Lookahead, token, end_of_text, LocatedToken, Shows}
 use Rattle.express_syntax.specs.Schemas.{Bounds, Width, DataType, real, array, list, bag, set}
-use Rattle.express_syntax.specs.Written.{said, words_of_bounds, words_of_some_bounds, words_of_width, words_of_fixed, words_of_data_type}
+use Rattle.express_syntax.specs.WrittenSchemas.{said, words_of_bounds, words_of_some_bounds, words_of_width, words_of_fixed, words_of_data_type}
 use Rattle.express_syntax.specs.Profile.{Maybe, FitsBounds, FitsWidth}
-use Rattle.express_syntax.specs.Predict.{Symbol, Just, EndOfText, Ending, ending_mark, semicolon, assignment, DataTypeThen, WidthOr, FixedWidthOr, FixedOr, BoundsOrOf, OptionalOr, UniqueOr, Running, in_parentheses, bounds_symbols, next, next_mark_or, refused, is_mark, is_keyword}
-use Rattle.express_parts.specs.DataTypeParts.{PassesDataType, PassesBehind, TakesWidth, is_aggregate}
-use Rattle.express_syntax.specs.Steps.{StopsIn, Passes}
+use Rattle.express_syntax.specs.steps.Predict.{Symbol, Just, EndOfText, Ending, ending_mark, semicolon, assignment, DataTypeThen, WidthOr, FixedWidthOr, FixedOr, BoundsOrOf, OptionalOr, UniqueOr, Running, in_parentheses, bounds_symbols, next, next_mark_or, refused, is_mark, is_keyword}
+use Rattle.express_parts.specs.steps.DataTypeParts.{PassesDataType, PassesBehind, TakesWidth, is_aggregate}
+use Rattle.express_syntax.specs.steps.Steps.{StopsIn, Passes}
 use Rattle.express_syntax.proofs.PassingRuns.{shallow}
 use Rattle.express_syntax.proofs.Turning.{stops_shown}
 use Rattle.express_syntax.proofs.Taking.{passes_as, passes_join, passes_more, passes_then, passes_token, passes_taken, passes_first, stops_behind, stops_first, passes_other, stops_as}
@@ -53,7 +53,7 @@ mark_or_refused n end us (token (mark marks.Open)) c d = absurd (false≢true (s
 mark_or_refused n end us (token (mark m)) c d = rw d refl
 mark_or_refused n end us _ c d = refl
 
--- .. and it isn't the end of the text
+-- a symbol for a width or the mark after a data type isn't the end of the text
 pub not_over : (y : Symbol) (us : List Symbol) (n : ℕ) (end : Ending) → TakesWidth y us n end → y ≡ EndOfText → ⊥
 not_over y us n end t e = let d : next depth_limit EndOfText end_of_text ≡ next_mark_or depth_limit n end us
     end_of_text = ap (λ z. next depth_limit z end_of_text) (sym e) ∙ t end_of_text in absurd cc
@@ -153,7 +153,7 @@ pub real_none : (n : ℕ) (end : Ending) (old new : Reading) → Passes (WidthOr
     ∷ []) old new → PassesBehind (keyword keywords.Real) (WidthOr n end ∷ []) n end (real None) old new
 real_none n end old new h = (tt, mark (ending_mark end) ∷ [], refl, h)
 
--- .. and with one
+-- REAL with a width
 pub real_some : (n : ℕ) (end : Ending) (w : Width) (old a b : Reading) → FitsWidth depth_limit n w
     → Passes (WidthOr n end ∷ []) (Just (ending_mark end) ∷ []) [] (words_of_width w) old a
     → Passes (Just (ending_mark end) ∷ []) [] [] (mark (ending_mark end) ∷ []) a b
@@ -180,13 +180,13 @@ data_type_behind w ys n end s k old new i e h = (
       (sym h.2) (passes_join (passes_taken (DataTypeThen n end) ys w s old i e) h.3),
 )
 
--- .. where it stops
+-- a fault after the first word of a data type
 pub data_type_stopped : (f : SyntaxFault) (w : Word) (ys : List Symbol) (n : ℕ) (end : Ending) (s : LocatedToken)
     (old : Reading) → s.lookahead ≡ token w → next depth_limit (DataTypeThen n end) (token w) ≡ Ok ys
     → StopsIn f ys [] old → StopsIn f (DataTypeThen n end ∷ []) (s ∷ []) old
 data_type_stopped f w ys n end s old i e h = stops_left f ys (passes_taken (DataTypeThen n end) ys w s old i e) h
 
--- .. of which both are known
+-- a data type after its first word, or the fault there
 pub data_type_behind_or : {C : Type 0} (f : C → DataType) (w : Word) (ys : List Symbol) (n : ℕ) (end : Ending)
     (s : LocatedToken) (r : Result C SyntaxFault) (old new : Reading) → s.lookahead ≡ token w
     → next depth_limit (DataTypeThen n end) (token w) ≡ Ok ys
@@ -289,7 +289,7 @@ optional_unsaid n end s u k old a b shows c h = (
       (optional_other n end s.lookahead c) h.1),
 )
 
--- .. and what stops them
+-- a fault in elements without OPTIONAL before them
 pub optional_unsaid_stopped : (e : SyntaxFault) (n : ℕ) (end : Ending) (s : LocatedToken) (old a : Reading)
     → Shows old s a → is_keyword keywords.Optional s.lookahead ≡ false → StopsIn e (UniqueOr n end ∷ []) (s ∷ []) a
     → StopsIn e (OptionalOr n end ∷ []) [] old

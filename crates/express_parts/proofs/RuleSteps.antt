@@ -3,8 +3,8 @@ use Rattle.std.proofs.Common.{◌≡◌, ℕ, ◌≤◌, ◌<◌, Bool, true, fa
 use Rattle.std.proofs.lemmas.Bool.{false≢true}
 use Rattle.parsing.specs.Tables.{step_on, lookaheads}
 use Rattle.step_literals.specs.declared.literal.Word as literal
-use Rattle.express_lexis.specs.declared.marks.Mark.TheVariants as marks
-use Rattle.express_lexis.specs.Reading.{Reading, left}
+use Rattle.express_lexer.specs.declared.marks.Mark.TheVariants as marks
+use Rattle.express_lexer.specs.Reading.{Reading, left}
 use Rattle.express_syntax.specs.declared.keyword.Keyword.{Keyword}
 use Rattle.express_syntax.specs.declared.lexeme.Lexeme.{Lexeme}
 use Rattle.express_syntax.specs.declared.lexeme.Lexeme.TheVariants as lexemes
@@ -14,21 +14,21 @@ use Rattle.express_syntax.specs.ExpressionViews.{capitals}
 use Rattle.express_syntax.specs.Grammar.{depth_limit}
 use Rattle.express_syntax.specs.declared.fault.SyntaxFault.{SyntaxFault}
 use Rattle.express_syntax.specs.declared.fault.SyntaxFault.TheVariants as faults
-use Rattle.express_runs.specs.declared.runs.Buffer.{Buffer}
-use Rattle.express_runs.specs.declared.runs.Bracket as code
+use Rattle.express_token_runs.specs.declared.runs.Buffer.{Buffer}
+use Rattle.express_token_runs.specs.declared.runs.Bracket as code
 use Rattle.express_syntax.specs.declared.tree.Body as tree
 use Rattle.express_syntax.specs.declared.tree.Rule as tree_rule
-use Rattle.express_runs.specs.Items.{named}
+use Rattle.express_token_runs.specs.steps.Items.{named}
 use Rattle.express_syntax.specs.Views.{body_of, rule_of}
 use Rattle.express_syntax.specs.Schemas.{Body, Rule}
-use Rattle.express_syntax.specs.Written.{joined, words_of_body, words_of_rule}
+use Rattle.express_syntax.specs.WrittenSchemas.{concatenated, words_of_body, words_of_rule}
 use Rattle.express_syntax.specs.Profile.{FitsBody, Begins, BeginsRule, FitsRules}
-use Rattle.express_runs.specs.OpenRuns.{brackets_of}
+use Rattle.express_token_runs.specs.steps.OpenRuns.{brackets_of}
 use Rattle.express_syntax.specs.Runs.{has_some}
 use Rattle.express_syntax.specs.Texts.{token, LocatedToken, Shows, ShowsAll}
-use Rattle.express_syntax.specs.Predict.{Symbol, Just, Running, in_rule, Rules, Labelled, Next, then_rules, next, run, is_mark, is_keyword, same_keyword}
-use Rattle.express_syntax.specs.Steps.{StopsIn, Passes}
-use Rattle.express_parts.specs.RuleReading.{BodyRead, RuleRead}
+use Rattle.express_syntax.specs.steps.Predict.{Symbol, Just, Running, in_rule, Rules, Labelled, Next, then_rules, next, run, is_mark, is_keyword, same_keyword}
+use Rattle.express_syntax.specs.steps.Steps.{StopsIn, Passes}
+use Rattle.express_parts.specs.steps.RuleReading.{BodyRead, RuleRead}
 use Rattle.express_syntax.proofs.Passing.{same_bytes}
 use Rattle.express_syntax.proofs.PassingRules.{next_rules_keyword, next_labelled_word, next_rules_end}
 use Rattle.express_syntax.proofs.Looking.{mark_met, keyword_met, shown_less, tokens_less}
@@ -144,7 +144,7 @@ read_stops f before us s old e o h =
     (s ∷ []) old in
     subst P o (subst Q e h)
 
--- .. of an empty buffer
+-- a body after an empty buffer
 read_empty : (before : Buffer) (s : LocatedToken) (b : Body) (old new : Reading) → before.lexemes.items ≡ []
     → before.open.items ≡ [] → BodyRead before s b old new
     → Passes (Running in_rule 0 [] false ∷ []) [] (s ∷ []) (words_of_body b ++ mark marks.Semicolon ∷ []) old new
@@ -281,14 +281,14 @@ module _ (end : Keyword) (w : literal.Word) (place : ℕ) (v : Word) (at : ℕ) 
 -- the rules so far
 pub record RulesSoFar (end : Keyword) (rs : List Rule) (old here : Reading) : Type 0 where
   pub fits : FitsRules depth_limit end rs
-  pub passes : Passes (Rules end ∷ []) (Rules end ∷ []) [] (joined (map words_of_rule rs)) old here
+  pub passes : Passes (Rules end ∷ []) (Rules end ∷ []) [] (concatenated (map words_of_rule rs)) old here
 
 -- one rule more
 pub rules_next : (end : Keyword) (rs : List Rule) (r : Rule) (s : LocatedToken) (old here mid new : Reading)
     → RulesSoFar end rs old here → Shows here s mid → RuleRead end s r mid new → RulesSoFar end (rs ++ r ∷ []) old new
 rules_next end rs r s old here mid new so h g = record {
   fits = every_push (λ (q : Rule). FitsBody depth_limit q.body × BeginsRule end q) rs r so.fits (g.fits, g.begins);
-  passes = passes_as (joined (map words_of_rule (rs ++ r ∷ []))) (sym (joined_push words_of_rule rs r))
+  passes = passes_as (concatenated (map words_of_rule (rs ++ r ∷ []))) (sym (joined_push words_of_rule rs r))
       (passes_join so.passes (passes_first s here h g.passes));
 }
 
@@ -304,7 +304,7 @@ rules_err_rule x end rs s old here mid so h g = stops_behind_taken x (Rules end 
 -- the word that ends the rules
 rules_ended : (end : Keyword) (rs : List Rule) (s : LocatedToken) (old here mid : Reading) → RulesSoFar end rs old here
     → Shows here s mid → is_keyword end s.lookahead ≡ true
-    → Passes (Rules end ∷ []) (Just marks.Semicolon ∷ []) [] (joined (map words_of_rule rs) ++ keyword end ∷ []) old mid
+    → Passes (Rules end ∷ []) (Just marks.Semicolon ∷ []) [] (concatenated (map words_of_rule rs) ++ keyword end ∷ []) old mid
 rules_ended end rs s old here mid so h e = passes_join so.passes (passes_token (Rules end) (Just marks.Semicolon ∷ [])
     (keyword end) s here mid h (keyword_met end s.lookahead e) (next_rules_end depth_limit end))
 
@@ -317,12 +317,12 @@ rules_err_end x end rs s old here mid so h e g = stops_behind x (Just marks.Semi
 pub rules_done : (end : Keyword) (rs : List Rule) (s : LocatedToken) (old here mid new : Reading)
     → RulesSoFar end rs old here → Shows here s mid → is_keyword end s.lookahead ≡ true
     → Passes (Just marks.Semicolon ∷ []) [] [] (mark marks.Semicolon ∷ []) mid new
-    → FitsRules depth_limit end rs × Passes (Rules end ∷ []) [] [] (joined (map words_of_rule rs) ++ keyword end
+    → FitsRules depth_limit end rs × Passes (Rules end ∷ []) [] [] (concatenated (map words_of_rule rs) ++ keyword end
     ∷ mark marks.Semicolon ∷ []) old new
 rules_done end rs s old here mid new so h e g = (
   so.fits,
-  passes_as (joined (map words_of_rule rs) ++ keyword end ∷ mark marks.Semicolon ∷ [])
-      (append_assoc (joined (map words_of_rule rs)) (keyword end ∷ []) (mark marks.Semicolon ∷ []))
+  passes_as (concatenated (map words_of_rule rs) ++ keyword end ∷ mark marks.Semicolon ∷ [])
+      (append_assoc (concatenated (map words_of_rule rs)) (keyword end ∷ []) (mark marks.Semicolon ∷ []))
       (passes_join (rules_ended end rs s old here mid so h e) g),
 )
 

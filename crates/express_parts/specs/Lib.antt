@@ -1,3 +1,1 @@
-pub mod RuleReading
-pub mod Endings
-pub mod DataTypeParts
+pub mod steps

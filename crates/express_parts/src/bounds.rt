@@ -1,4 +1,4 @@
-//! Bounds, widths and supertype expressions (ISO 10303-11, 8.1, 8.2 and 9.2.5): parts that stand in
+//! Bounds, widths and supertype expressions (ISO 10303-11, 8.1, 8.2 and 9.2.5): the parts in
 //! brackets.
 
 ghost use Rattle.std.specs.Prelude.{
@@ -21,7 +21,7 @@ ghost use Rattle.std.specs.Prelude.{
   MatchOption,
   MatchResult,
 };
-ghost use Rattle.express_lexis.specs.declared.marks.Mark.TheVariants as marks;
+ghost use Rattle.express_lexer.specs.declared.marks.Mark.TheVariants as marks;
 ghost use Rattle.express_syntax.specs.declared.keyword.Keyword.TheVariants as keywords;
 ghost use Rattle.express_syntax.specs.declared.expression.Sign as signs;
 ghost use Rattle.express_syntax.specs.Trees.{word_of_sign};
@@ -38,7 +38,7 @@ ghost use Rattle.express_syntax.specs.Views.{
   width_of,
   supertype_of,
 };
-ghost use Rattle.express_syntax.specs.Written.{
+ghost use Rattle.express_syntax.specs.WrittenSchemas.{
   words_of_names,
   words_of_bound,
   words_of_bounds,
@@ -65,31 +65,31 @@ ghost use Rattle.express_syntax.specs.Sources.{
   IsSupertypeOf,
 };
 ghost use Rattle.express_syntax.specs.Runs.{words_of_run, FitsRun, IsSome};
-ghost use Rattle.express_runs.specs.OpenRuns.{part_of, may_of, end_of};
-ghost use Rattle.express_syntax.specs.Predict.{
+ghost use Rattle.express_token_runs.specs.steps.OpenRuns.{part_of, may_of, end_of};
+ghost use Rattle.express_syntax.specs.steps.Predict.{
   BoundsOrOf,
   Running,
   in_parentheses,
   bounds_symbols,
 };
-ghost use Rattle.express_syntax.specs.Steps.{Passes, ParsesWhere, ParsesBehind, StopsIn};
+ghost use Rattle.express_syntax.specs.steps.Steps.{Passes, ParsesWhere, ParsesBehind, StopsIn};
 
-use express_lexis::lexer::Lexer;
-use express_lexis::marks::Mark;
-use express_runs::reader::Reader;
-use express_runs::runs::{Buffer, Ends, gather};
-use express_runs::tokens::{fault_at, is_keyword, is_mark, next_item, refuse};
+use express_lexer::lexer::Lexer;
+use express_lexer::marks::Mark;
 use express_syntax::expression::{LEVELS, Sign};
 use express_syntax::fault::{FaultKind, SyntaxFault};
 use express_syntax::keyword::Keyword;
 use express_syntax::lexeme::Lexeme;
 use express_syntax::passage::Run;
 use express_syntax::tree::{Bound, Bounds, Supertype, Width};
+use express_token_runs::reader::Reader;
+use express_token_runs::runs::{Buffer, Ends, gather};
+use express_token_runs::tokens::{fault_at, is_keyword, is_mark, next_item, refuse};
 use std::alloc::{AllocError, Global};
 use step_literals::literal::{Decimal, Word};
 
-/// Reads a run of tokens behind an opening bracket, or behind the colon of bounds, and what ends
-/// it.
+/// Reads a run of tokens after an opening bracket or after the colon of bounds, and the mark that
+/// ends it.
 fn next_run<'a>(
     lexer: &mut Lexer<'a>,
     part: Ends,
@@ -111,7 +111,7 @@ fn next_run<'a>(
     gather(lexer, part, around, buffer, first)
 }
 
-/// The bound that one token is, if it is one.
+/// Returns the bound that consists of this token, if any.
 fn plain_bound(lexeme: Lexeme<'_>) -> Option<Bound<'_>>
     ensures known { MatchOption result (IsBoundText (word_of lexeme.entry ∷ []) → ⊥)
         (λ b. (words_of_bound (bound_of b) ≡ word_of lexeme.entry ∷ [])
@@ -125,7 +125,7 @@ fn plain_bound(lexeme: Lexeme<'_>) -> Option<Bound<'_>>
     }
 }
 
-/// The integer that it is, if it is one.
+/// Returns the integer that the lexeme is, if any.
 fn integer_at(lexeme: Lexeme<'_>) -> Option<Decimal<'_>>
     ensures { MatchOption result ((t : List ℕ) → word_of lexeme.entry ≡ integer t → ⊥)
         (λ d. word_of lexeme.entry ≡ integer d.text.now) }
@@ -136,7 +136,7 @@ fn integer_at(lexeme: Lexeme<'_>) -> Option<Decimal<'_>>
     }
 }
 
-/// The sign that it is, if it is one.
+/// Returns the sign that the lexeme is, if any.
 fn sign_at(lexeme: Lexeme<'_>) -> Option<Sign>
     ensures { MatchOption result ((s : signs.Sign) → word_of lexeme.entry ≡ word_of_sign s → ⊥)
         (λ s. word_of lexeme.entry ≡ word_of_sign s) }
@@ -148,7 +148,7 @@ fn sign_at(lexeme: Lexeme<'_>) -> Option<Sign>
     }
 }
 
-/// The name that it is, if it is one.
+/// Returns the name that the lexeme is, if any.
 fn name_at(lexeme: Lexeme<'_>) -> Option<Word<'_>>
     ensures { MatchOption result ((n : List ℕ) → word_of lexeme.entry ≡ name n → ⊥)
         (λ w. word_of lexeme.entry ≡ name (capitals w)) }
@@ -159,7 +159,7 @@ fn name_at(lexeme: Lexeme<'_>) -> Option<Word<'_>>
     }
 }
 
-/// Whether it is this mark.
+/// Whether the lexeme is this mark.
 fn shows_mark(lexeme: Lexeme<'_>, wanted: Mark) -> bool
     ensures { IsTrue result ↔ (word_of lexeme.entry ≡ mark wanted) }
 {
@@ -169,7 +169,7 @@ fn shows_mark(lexeme: Lexeme<'_>, wanted: Mark) -> bool
     }
 }
 
-/// The bound that these tokens are, if they are one.
+/// Returns the bound that consists of these tokens, if any.
 fn known_bound<'a>(lexemes: &[Lexeme<'a>]) -> Option<Bound<'a>>
     ensures known { MatchOption result (IsBoundText (words_of lexemes.now) → ⊥)
         (λ b. (words_of_bound (bound_of b) ≡ words_of lexemes.now)
@@ -187,7 +187,7 @@ fn known_bound<'a>(lexemes: &[Lexeme<'a>]) -> Option<Bound<'a>>
     }
 }
 
-/// The integer that these tokens are, if they are one.
+/// Returns the integer that these tokens are, if they are one.
 fn known_width<'a>(lexemes: &[Lexeme<'a>]) -> Option<Decimal<'a>>
     ensures { MatchOption result ((t : List ℕ) → words_of lexemes.now ≡ integer t ∷ [] → ⊥)
         (λ d. words_of lexemes.now ≡ integer d.text.now ∷ []) }
@@ -198,14 +198,14 @@ fn known_width<'a>(lexemes: &[Lexeme<'a>]) -> Option<Decimal<'a>>
     }
 }
 
-/// Whether it is ONEOF, whatever the case of its letters.
+/// Whether the word is ONEOF, regardless of case.
 fn is_one_of(word: Word<'_>) -> bool
     ensures { IsTrue result ↔ (capitals word.entry ≡ codes "ONEOF") }
 {
     word.spelling().eq_ignore_ascii_case(b"ONEOF")
 }
 
-/// The names in parentheses that these tokens are, if they are such.
+/// Returns the names if these tokens are names in parentheses, otherwise `None`.
 fn known_names<'a>(
     alloc: Global,
     lexemes: &[Lexeme<'a>],
@@ -247,7 +247,7 @@ fn known_names<'a>(
     }
 }
 
-/// The supertype expression that these tokens are, if they are one that is a tree.
+/// Returns the supertype expression that these tokens are, if it has a tree, otherwise `None`.
 fn known_supertype<'a>(
     alloc: Global,
     lexemes: &[Lexeme<'a>],
@@ -278,7 +278,7 @@ fn known_supertype<'a>(
     }
 }
 
-/// Reads a bound and what ends it.
+/// Reads a bound and the mark that ends it.
 fn bound<'a>(reader: &mut Reader<'a>, part: Ends, around: u32) -> Result<Bound<'a>, SyntaxFault>
     requires around { around ≤ 64 }
     ensures read { ParsesWhere result (Running (part_of part) around [] false ∷ [])
@@ -295,8 +295,8 @@ fn bound<'a>(reader: &mut Reader<'a>, part: Ends, around: u32) -> Result<Bound<'
     Ok(Bound::Other(boxed))
 }
 
-/// Reads the bounds of an aggregate type behind their bracket, and OF, with so many brackets and
-/// aggregate types open around it.
+/// Reads the bounds of an aggregate type after their opening bracket, and OF. `around` brackets and
+/// aggregate types are open around the bounds.
 pub fn bounds<'a>(reader: &mut Reader<'a>, around: u32) -> Result<Bounds<'a>, SyntaxFault>
     requires around { around < 64 }
     ensures read { ParsesBehind (mark marks.OpenBracket ∷ []) result (bounds_symbols around)
@@ -310,7 +310,7 @@ pub fn bounds<'a>(reader: &mut Reader<'a>, around: u32) -> Result<Bounds<'a>, Sy
     Ok(Bounds { lower, upper })
 }
 
-/// Reads the bounds of an aggregate type, if there are any, and OF.
+/// Reads the bounds of an aggregate type, if any, and OF.
 pub fn some_bounds<'a>(
     reader: &mut Reader<'a>,
     around: u32,
@@ -335,7 +335,7 @@ pub fn some_bounds<'a>(
     Ok(Some(bounds))
 }
 
-/// Reads the indices of an array behind their bracket, and OF, into a box.
+/// Reads the indices of an array after their opening bracket, and OF. Returns the indices in a box.
 pub(crate) fn boxed_indices<'a>(
     reader: &mut Reader<'a>,
     around: u32,
@@ -351,7 +351,7 @@ pub(crate) fn boxed_indices<'a>(
     Ok(boxed)
 }
 
-/// Reads the bounds of an aggregate type, if there are any, and OF, into a box.
+/// Reads the bounds of an aggregate type, if any, and OF. Returns the bounds in a box.
 pub(crate) fn boxed_bounds<'a>(
     reader: &mut Reader<'a>,
     around: u32,
@@ -368,7 +368,7 @@ pub(crate) fn boxed_bounds<'a>(
     Ok(boxed)
 }
 
-/// Reads a width behind its parenthesis, and the closing one.
+/// Reads a width after its opening parenthesis, and the closing one.
 pub fn width<'a>(reader: &mut Reader<'a>, around: u32) -> Result<Width<'a>, SyntaxFault>
     requires around { around < 64 }
     ensures read { ParsesBehind (mark marks.Open ∷ []) result
@@ -389,7 +389,7 @@ pub fn width<'a>(reader: &mut Reader<'a>, around: u32) -> Result<Width<'a>, Synt
     Ok(Width::Other(tokens))
 }
 
-/// Reads a supertype expression behind its parenthesis, and the closing one.
+/// Reads a supertype expression after its opening parenthesis, and the closing one.
 pub fn supertype<'a>(reader: &mut Reader<'a>) -> Result<Supertype<'a>, SyntaxFault>
     ensures read { ParsesBehind
         (keyword keywords.Supertype ∷ keyword keywords.Of ∷ mark marks.Open ∷ [])

@@ -16,14 +16,14 @@ ghost use Rattle.std.specs.Prelude.{
   MatchResult,
   MatchOption,
 };
-ghost use Rattle.express_lexis.specs.declared.marks.Mark.TheVariants as marks;
+ghost use Rattle.express_lexer.specs.declared.marks.Mark.TheVariants as marks;
 ghost use Rattle.express_syntax.specs.declared.keyword.Keyword.TheVariants as keywords;
 ghost use Rattle.express_syntax.specs.Words.{mark, keyword};
 ghost use Rattle.express_syntax.specs.Grammar.{depth_limit};
-ghost use Rattle.express_runs.specs.Items.{located_of};
+ghost use Rattle.express_token_runs.specs.steps.Items.{located_of};
 ghost use Rattle.express_syntax.specs.Texts.{token};
 ghost use Rattle.express_syntax.specs.Views.{data_type_of, width_of, fixed_of, bounds_of, if_some};
-ghost use Rattle.express_syntax.specs.Written.{
+ghost use Rattle.express_syntax.specs.WrittenSchemas.{
   said,
   words_of_data_type,
   words_of_width,
@@ -37,8 +37,8 @@ ghost use Rattle.express_syntax.specs.Sources.{
   IsFixedWidthOf,
   IsDataTypeOf,
 };
-ghost use Rattle.express_syntax.specs.Predict;
-ghost use Rattle.express_syntax.specs.Predict.{
+ghost use Rattle.express_syntax.specs.steps.Predict;
+ghost use Rattle.express_syntax.specs.steps.Predict.{
   Symbol,
   Just,
   DataTypeThen,
@@ -51,23 +51,23 @@ ghost use Rattle.express_syntax.specs.Predict.{
   bounds_symbols,
   ending_mark,
 };
-ghost use Rattle.express_parts.specs.DataTypeParts;
-ghost use Rattle.express_parts.specs.DataTypeParts.{PassesDataType, PassesBehind, TakesWidth};
-ghost use Rattle.express_parts.specs.Endings.{ending_of};
-ghost use Rattle.express_syntax.specs.Steps.{Passes, Parses, ParsesWhere, ParsesFrom, StopsIn};
+ghost use Rattle.express_parts.specs.steps.DataTypeParts;
+ghost use Rattle.express_parts.specs.steps.DataTypeParts.{PassesDataType, PassesBehind, TakesWidth};
+ghost use Rattle.express_parts.specs.steps.Endings.{ending_of};
+ghost use Rattle.express_syntax.specs.steps.Steps.{Passes, Parses, ParsesWhere, ParsesFrom, StopsIn};
 
 use crate::bounds::{boxed_bounds, boxed_indices, width};
-use crate::build;
-use express_lexis::marks::Mark;
-use express_runs::reader::Reader;
-use express_runs::tokens::{Item, fault_at, is_keyword, is_mark, refuse};
+use crate::builders;
+use express_lexer::marks::Mark;
 use express_syntax::expression::LEVELS;
 use express_syntax::fault::{self, SyntaxFault};
 use express_syntax::keyword::Keyword;
 use express_syntax::lexeme::Lexeme;
 use express_syntax::tree::{Bounds, DataType, FixedWidth, Width};
+use express_token_runs::reader::Reader;
+use express_token_runs::tokens::{Item, fault_at, is_keyword, is_mark, refuse};
 
-/// The mark that stands behind a data type.
+/// The mark after a data type.
 #[derive(Clone, Copy, Debug, PartialEq, Eq)]
 pub enum Ending {
     Semicolon,
@@ -99,7 +99,7 @@ fn is_aggregate(found: Keyword) -> bool
     }
 }
 
-/// Whether a token is the mark behind a data type.
+/// Whether a token is the mark after a data type.
 fn is_end(item: Item<'_>, end: Ending) -> bool
     ensures { result ≡ Predict.is_mark (ending_mark (ending_of end))
         (located_of item.entry).lookahead }
@@ -107,7 +107,7 @@ fn is_end(item: Item<'_>, end: Ending) -> bool
     is_mark(item, end.mark())
 }
 
-/// Reads the mark behind a data type.
+/// Reads the mark after a data type.
 fn expect_end(reader: &mut Reader<'_>, end: Ending) -> Result<(), SyntaxFault>
     ensures { Parses result (Just (ending_mark (ending_of end)) ∷ [])
         (λ _. mark (ending_mark (ending_of end)) ∷ []) reader.old reader.new }
@@ -115,7 +115,7 @@ fn expect_end(reader: &mut Reader<'_>, end: Ending) -> Result<(), SyntaxFault>
     reader.expect(end.mark())
 }
 
-/// A data type, where the mark behind it stands.
+/// Reads the mark after a data type and returns the data type.
 fn ended<'a>(
     reader: &mut Reader<'_>,
     data_type: DataType<'a>,
@@ -131,7 +131,7 @@ fn ended<'a>(
     Ok(data_type)
 }
 
-/// Reads the mark behind a data type, or a width.
+/// Reads either the mark after a data type, or a width.
 fn width_or_end<'a>(
     reader: &mut Reader<'a>,
     depth: u32,
@@ -161,7 +161,8 @@ fn width_or_end<'a>(
     Ok(None)
 }
 
-/// Reads FIXED, if it stands behind a width, and the mark behind the data type.
+/// Reads FIXED after a width, if it is there, and the mark after the data type. Returns whether
+/// FIXED is there.
 fn fixed(reader: &mut Reader<'_>, end: Ending) -> Result<bool, SyntaxFault>
     ensures { Parses result (FixedOr (ending_of end) ∷ [])
         (λ f. said keywords.Fixed f
@@ -178,7 +179,7 @@ fn fixed(reader: &mut Reader<'_>, end: Ending) -> Result<bool, SyntaxFault>
     Ok(false)
 }
 
-/// Reads what stands behind REAL.
+/// Reads the rest of a REAL, and the mark after the data type.
 fn real<'a>(reader: &mut Reader<'a>, depth: u32, end: Ending) -> Result<DataType<'a>, SyntaxFault>
     requires depth { depth ≤ 64 }
     ensures read { MatchResult result
@@ -188,14 +189,14 @@ fn real<'a>(reader: &mut Reader<'a>, depth: u32, end: Ending) -> Result<DataType
     ensures text { IfOk result (λ k. IsDataTypeOf reader.old.text k) }
 {
     let Some(width) = width_or_end(reader, depth, end)? else {
-        return Ok(build::real(None));
+        return Ok(builders::real(None));
     };
     expect_end(reader, end)?;
     let boxed = Box::new(reader.alloc(), width)?;
-    Ok(build::real(Some(boxed)))
+    Ok(builders::real(Some(boxed)))
 }
 
-/// Reads what stands behind STRING or BINARY.
+/// Reads the rest of a STRING or BINARY, and the mark after the data type.
 fn fixed_width<'a>(
     reader: &mut Reader<'a>,
     depth: u32,
@@ -217,7 +218,7 @@ fn fixed_width<'a>(
     Ok(Some(boxed))
 }
 
-/// Reads a data type of which the first token is taken, a word that begins no aggregate type.
+/// Reads a data type whose first token is already taken, a word that begins no aggregate type.
 fn simple<'a>(
     reader: &mut Reader<'a>,
     first: Item<'a>,
@@ -253,8 +254,8 @@ fn simple<'a>(
     }
 }
 
-/// Reads the data type of an aggregate's elements, of which the first token is taken, perhaps
-/// behind UNIQUE.
+/// Reads the data type of an aggregate's elements, whose first token is already taken. Returns
+/// whether UNIQUE precedes the data type.
 #[cycle(data_types)]
 fn element_from<'a>(
     reader: &mut Reader<'a>,
@@ -281,7 +282,7 @@ fn element_from<'a>(
     Ok((false, boxed))
 }
 
-/// Reads the data type of an aggregate's elements, perhaps behind UNIQUE.
+/// Reads the data type of an aggregate's elements. Returns whether UNIQUE precedes the data type.
 #[cycle(data_types)]
 fn element<'a>(
     reader: &mut Reader<'a>,
@@ -299,8 +300,8 @@ fn element<'a>(
     element_from(reader, first, depth, end)
 }
 
-/// Reads the data type of an array's elements, perhaps behind UNIQUE, and whether OPTIONAL stands
-/// before it.
+/// Reads the data type of an array's elements. Returns whether OPTIONAL and whether UNIQUE precede
+/// the data type.
 #[cycle(data_types)]
 fn optional_element<'a>(
     reader: &mut Reader<'a>,
@@ -324,7 +325,7 @@ fn optional_element<'a>(
     Ok((false, unique, other))
 }
 
-/// Reads an array behind ARRAY.
+/// Reads an array, after ARRAY.
 #[cycle(data_types)]
 fn array<'a>(reader: &mut Reader<'a>, depth: u32, end: Ending) -> Result<DataType<'a>, SyntaxFault>
     requires depth { depth < 64 }
@@ -339,10 +340,10 @@ fn array<'a>(reader: &mut Reader<'a>, depth: u32, end: Ending) -> Result<DataTyp
     reader.expect(Mark::OpenBracket)?;
     let bounds = boxed_indices(reader, depth)?;
     let (is_optional, is_unique, element) = optional_element(reader, depth + 1, end)?;
-    Ok(build::array(is_optional, is_unique, bounds, element))
+    Ok(builders::array(is_optional, is_unique, bounds, element))
 }
 
-/// Reads a list behind LIST.
+/// Reads a list, after LIST.
 #[cycle(data_types)]
 fn list<'a>(reader: &mut Reader<'a>, depth: u32, end: Ending) -> Result<DataType<'a>, SyntaxFault>
     requires depth { depth < 64 }
@@ -356,10 +357,10 @@ fn list<'a>(reader: &mut Reader<'a>, depth: u32, end: Ending) -> Result<DataType
 {
     let bounds = boxed_bounds(reader, depth)?;
     let (is_unique, element) = element(reader, depth + 1, end)?;
-    Ok(build::list(is_unique, bounds, element))
+    Ok(builders::list(is_unique, bounds, element))
 }
 
-/// Reads what stands behind BAG or SET.
+/// Reads the rest of a BAG or SET.
 #[cycle(data_types)]
 fn collection<'a>(
     reader: &mut Reader<'a>,
@@ -384,7 +385,7 @@ fn collection<'a>(
     Ok((bounds, boxed))
 }
 
-/// Reads an aggregate type of which the first token is taken.
+/// Reads an aggregate type whose first token is already taken.
 #[cycle(data_types)]
 fn aggregate<'a>(
     reader: &mut Reader<'a>,
@@ -411,16 +412,16 @@ fn aggregate<'a>(
         Keyword::List => list(reader, depth, end),
         Keyword::Bag => {
             let (bounds, element) = collection(reader, depth, end)?;
-            Ok(build::bag(bounds, element))
+            Ok(builders::bag(bounds, element))
         }
         _ => {
             let (bounds, element) = collection(reader, depth, end)?;
-            Ok(build::set(bounds, element))
+            Ok(builders::set(bounds, element))
         }
     }
 }
 
-/// Reads a data type of which the first token is taken, and the mark behind it, with so many
+/// Reads a data type whose first token is already taken, and the mark after it, with `depth`
 /// aggregate types around it.
 #[cycle(data_types)]
 pub fn data_type_from<'a>(
@@ -448,7 +449,7 @@ pub fn data_type_from<'a>(
     }
 }
 
-/// Reads a data type, and the mark behind it, with so many aggregate types around it.
+/// Reads a data type and the mark after it, with `depth` aggregate types around it.
 #[cycle(data_types)]
 pub fn data_type<'a>(
     reader: &mut Reader<'a>,

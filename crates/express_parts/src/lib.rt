@@ -3,6 +3,6 @@
 #![tactic(auto)]
 
 pub mod bounds;
-mod build;
+mod builders;
 pub mod data_types;
 pub mod rules;

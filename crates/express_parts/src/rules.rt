@@ -1,38 +1,38 @@
-//! What rules and derived attributes say (ISO 10303-11, 9.2.1.2 and 9.2.2.2).
+//! The expressions of rules and derived attributes (ISO 10303-11, 9.2.1.2 and 9.2.2.2).
 
 ghost use Rattle.std.specs.Prelude.{◌≡◌, [], ◌∷◌, ◌++◌, List, map, false, IfOk, MatchResult};
-ghost use Rattle.express_lexis.specs.Reading.{Reading};
-ghost use Rattle.express_lexis.specs.declared.marks.Mark.TheVariants as marks;
+ghost use Rattle.express_lexer.specs.Reading.{Reading};
+ghost use Rattle.express_lexer.specs.declared.marks.Mark.TheVariants as marks;
 ghost use Rattle.express_syntax.specs.declared.keyword.Keyword.{Keyword};
 ghost use Rattle.express_syntax.specs.Words.{mark, keyword};
 ghost use Rattle.express_syntax.specs.Grammar.{depth_limit};
-ghost use Rattle.express_runs.specs.Items.{located_of, named};
+ghost use Rattle.express_token_runs.specs.steps.Items.{located_of, named};
 ghost use Rattle.express_syntax.specs.Texts.{Shows};
 ghost use Rattle.express_syntax.specs.Views.{body_of, rule_of, rules_of};
-ghost use Rattle.express_syntax.specs.Written.{joined, words_of_body, words_of_rule};
+ghost use Rattle.express_syntax.specs.WrittenSchemas.{concatenated, words_of_body, words_of_rule};
 ghost use Rattle.express_syntax.specs.Profile.{Every, FitsBody, FitsRules};
 ghost use Rattle.express_syntax.specs.Sources.{IsBodyOf, IsRuleOf};
-ghost use Rattle.express_runs.specs.OpenRuns.{IsBegun, more_of};
-ghost use Rattle.express_syntax.specs.Predict;
-ghost use Rattle.express_syntax.specs.Predict.{Running, in_rule, Rules};
-ghost use Rattle.express_syntax.specs.Steps.{ParsesWhere, StopsIn};
-ghost use Rattle.express_parts.specs.RuleReading.{BodyRead, RuleRead};
+ghost use Rattle.express_token_runs.specs.steps.OpenRuns.{IsBegun, more_of};
+ghost use Rattle.express_syntax.specs.steps.Predict;
+ghost use Rattle.express_syntax.specs.steps.Predict.{Running, in_rule, Rules};
+ghost use Rattle.express_syntax.specs.steps.Steps.{ParsesWhere, StopsIn};
+ghost use Rattle.express_parts.specs.steps.RuleReading.{BodyRead, RuleRead};
 
-use express_expressions::read::read_expression;
-use express_lexis::lexer::Lexer;
-use express_lexis::marks::Mark;
-use express_runs::reader::Reader;
-use express_runs::runs::{Buffer, Ends, gather};
-use express_runs::tokens::{Item, is_keyword, is_mark};
+use express_expressions::reader::read_expression;
+use express_lexer::lexer::Lexer;
+use express_lexer::marks::Mark;
 use express_syntax::fault::SyntaxFault;
 use express_syntax::keyword::Keyword;
 use express_syntax::lexeme::Lexeme;
 use express_syntax::tree::{Body, Rule};
+use express_token_runs::reader::Reader;
+use express_token_runs::runs::{Buffer, Ends, gather};
+use express_token_runs::tokens::{Item, is_keyword, is_mark};
 use std::alloc::Global;
 use step_literals::literal::Word;
 
-/// The tokens of the buffer and those behind them up to a semicolon, of which this one is taken: an
-/// expression, or tokens that are none.
+/// Reads an expression, or tokens that aren't one, and the semicolon. It begins with the tokens of
+/// the buffer, then `first`, which is already taken.
 fn gathered_body<'a>(
     alloc: Global,
     lexer: &mut Lexer<'a>,
@@ -54,7 +54,7 @@ fn gathered_body<'a>(
     }
 }
 
-/// Reads an expression, or tokens that are none, and the semicolon behind it.
+/// Reads an expression, or tokens that aren't one, and the semicolon after it.
 pub fn body<'a>(reader: &mut Reader<'a>) -> Result<Body<'a>, SyntaxFault>
     ensures read { ParsesWhere result (Running in_rule 0 [] false ∷ [])
         (λ b. words_of_body (body_of b) ++ mark marks.Semicolon ∷ [])
@@ -66,7 +66,7 @@ pub fn body<'a>(reader: &mut Reader<'a>) -> Result<Body<'a>, SyntaxFault>
     gathered_body(reader.alloc, &mut reader.lexer, first, &mut reader.buffer)
 }
 
-/// The rule that begins with this name, which is its label where a colon stands behind it.
+/// Reads the rule that begins with this name, which is its label if a colon follows.
 fn named_rule<'a>(
     reader: &mut Reader<'a>,
     word: Word<'a>,
@@ -92,7 +92,7 @@ fn named_rule<'a>(
     Ok(Rule { label: None, body })
 }
 
-/// The rule that begins with this token.
+/// Reads the rule that begins with this token.
 fn rule_from<'a>(reader: &mut Reader<'a>, first: Item<'a>) -> Result<Rule<'a>, SyntaxFault>
     requires shown { (mid : Reading) × Shows mid (located_of first) reader.old }
     ensures read { (end : Keyword)
@@ -113,7 +113,7 @@ fn rule_from<'a>(reader: &mut Reader<'a>, first: Item<'a>) -> Result<Rule<'a>, S
 /// Reads rules up to the keyword that ends them, and its semicolon.
 pub fn rules<'a>(reader: &mut Reader<'a>, end: Keyword) -> Result<Vec<Rule<'a>>, SyntaxFault>
     ensures read { ParsesWhere result (Rules end ∷ [])
-        (λ rs. joined (map words_of_rule (rules_of rs.items))
+        (λ rs. concatenated (map words_of_rule (rules_of rs.items))
         ++ keyword end ∷ mark marks.Semicolon ∷ [])
         (λ rs. FitsRules depth_limit end (rules_of rs.items)) reader.old reader.new }
     ensures text { IfOk result (λ rs. Every (IsRuleOf reader.old.text) rs.items) }

@@ -6,9 +6,9 @@ use Rattle.express_syntax.specs.declared.keyword.Keyword.{Keyword}
 use Rattle.express_syntax.specs.Words.{Word, keyword, name, mark}
 use Rattle.express_syntax.specs.Grammar.{depth_limit}
 use Rattle.express_syntax.specs.Texts.{token}
-use Rattle.express_syntax.specs.Written.{joined, said, words_of_clause}
+use Rattle.express_syntax.specs.WrittenSchemas.{concatenated, said, words_of_clause}
 use Rattle.express_syntax.specs.Profile.{Every, Maybe}
-use Rattle.express_syntax.specs.Predict.{Symbol, RunEnd, Running, next}
+use Rattle.express_syntax.specs.steps.Predict.{Symbol, RunEnd, Running, next}
 use Rattle.express_syntax.proofs.Passing.{Goal, Led, by_itself, leads_part}
 use Rattle.express_syntax.proofs.PassingRuns.{end_of}
 
@@ -16,7 +16,7 @@ use Rattle.express_syntax.proofs.PassingRuns.{end_of}
 pub head_is : {v w : Word} {vs ws : List Word} → v ∷ vs ≡ w ∷ ws → v ≡ w
 head_is e = cc
 
--- .. and those behind it
+-- the words after the first
 pub tail_is : {v w : Word} {vs ws : List Word} → v ∷ vs ≡ w ∷ ws → vs ≡ ws
 tail_is e = cc
 
@@ -86,15 +86,15 @@ module _ {A : Type 0} (write : A → List Word) (Fit : A → Type 0) (Ends : Lis
     (none : (x : A) (a : List Word) → Fit x → Ends (write x ++ a) → ⊥) where
   -- each of a list, where its end is told from another
   pub each_once : (xs ys : List A) (a b : List Word) → Every Fit xs → Every Fit ys → Ends a → Ends b
-      → joined (map write xs) ++ a ≡ joined (map write ys) ++ b → (xs ≡ ys) × (a ≡ b)
+      → concatenated (map write xs) ++ a ≡ concatenated (map write ys) ++ b → (xs ≡ ys) × (a ≡ b)
   each_once [] [] a b f g c d e = (refl, e)
-  each_once [] (y ∷ ys) a b f g c d e = absurd (none y (joined (map write ys) ++ b) g.0
-      (subst Ends (e ∙ append_assoc (write y) (joined (map write ys)) b) c))
-  each_once (x ∷ xs) [] a b f g c d e = absurd (none x (joined (map write xs) ++ a) f.0
-      (subst Ends (sym e ∙ append_assoc (write x) (joined (map write xs)) a) d))
+  each_once [] (y ∷ ys) a b f g c d e = absurd (none y (concatenated (map write ys) ++ b) g.0
+      (subst Ends (e ∙ append_assoc (write y) (concatenated (map write ys)) b) c))
+  each_once (x ∷ xs) [] a b f g c d e = absurd (none x (concatenated (map write xs) ++ a) f.0
+      (subst Ends (sym e ∙ append_assoc (write x) (concatenated (map write xs)) a) d))
   each_once (x ∷ xs) (y ∷ ys) a b f g c d e =
-      let first = one x y (joined (map write xs) ++ a) (joined (map write ys) ++ b) f.0 g.0
-      (regrouped (write x) (joined (map write xs)) a (write y) (joined (map write ys)) b e) in
+      let first = one x y (concatenated (map write xs) ++ a) (concatenated (map write ys) ++ b) f.0 g.0
+      (regrouped (write x) (concatenated (map write xs)) a (write y) (concatenated (map write ys)) b e) in
       let more = each_once xs ys a b f.1 g.1 c d first.1 in
       ((λ i. first.0 i ∷ more.0 i), more.1)
 
@@ -103,7 +103,7 @@ module _ {A : Type 0} (write : A → List Word) (Fit : A → Type 0) (Ends : Lis
       (a b : List Word) → Maybe (Every Fit) xs → Maybe (Every Fit) ys → Ends a → Ends b
       → words_of_clause k write xs ++ a ≡ words_of_clause k write ys ++ b → (xs ≡ ys) × (a ≡ b)
   clause_once k other None None a b f g c d e = (refl, e)
-  clause_once k other None (Some ys) a b f g c d e = absurd (other (joined (map write ys) ++ b) (subst Ends e c))
-  clause_once k other (Some xs) None a b f g c d e = absurd (other (joined (map write xs) ++ a) (subst Ends (sym e) d))
+  clause_once k other None (Some ys) a b f g c d e = absurd (other (concatenated (map write ys) ++ b) (subst Ends e c))
+  clause_once k other (Some xs) None a b f g c d e = absurd (other (concatenated (map write xs) ++ a) (subst Ends (sym e) d))
   clause_once k other (Some xs) (Some ys) a b f g c d e = let r = each_once xs ys a b f g c d (tail_is e) in
       (ap Some r.0, r.1)

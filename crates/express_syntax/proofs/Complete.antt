@@ -7,9 +7,9 @@ use Rattle.parsing.specs.Languages.{AllAre, IsComplete}
 use Rattle.parsing.proofs.Lists.{placed, lookaheads_placed}
 use Rattle.parsing.proofs.Leading.{Leads}
 use Rattle.parsing.proofs.Running.{reaches_more, reaches_run}
-use Rattle.express_lexis.specs.declared.marks.Mark.{Mark}
-use Rattle.express_lexis.specs.declared.marks.Mark.TheVariants as marks
-use Rattle.express_lexis.specs.Marks.{mark_text}
+use Rattle.express_lexer.specs.declared.marks.Mark.{Mark}
+use Rattle.express_lexer.specs.declared.marks.Mark.TheVariants as marks
+use Rattle.express_lexer.specs.Marks.{mark_text}
 use Rattle.express_syntax.specs.declared.keyword.Keyword.{Keyword}
 use Rattle.express_syntax.specs.declared.keyword.Keyword.TheVariants as keywords
 use Rattle.express_syntax.specs.Keywords.{keyword_text}
@@ -17,7 +17,7 @@ use Rattle.express_syntax.specs.Words.{keyword, name, mark}
 use Rattle.std.specs.Prelude.{codes}
 use Rattle.express_syntax.specs.Runs.{Bracket, parenthesis, square, brace}
 use Rattle.express_syntax.specs.Texts.{Lookahead, token, end_of_text}
-use Rattle.express_syntax.specs.Predict.{RunEnd, in_rule, in_lower, in_upper, in_parentheses, Ending, semicolon, assignment, ending_mark, Symbol, Just, Say, Id, Names, Version, Declarations, EndOfText, SkippedName, SkippedEnd, Routine, Until, Underlying, DataTypeThen, WidthOr, FixedWidthOr, FixedOr, BoundsOrOf, OptionalOr, UniqueOr, Running, TypeEnd, Rules, Labelled, Head, Super, SuperOf, Sub, Body, AnAttribute, Explicits, OptionalDataType, Inverted, Holder, Uniques, UniqueNamed, refused, next}
+use Rattle.express_syntax.specs.steps.Predict.{RunEnd, in_rule, in_lower, in_upper, in_parentheses, Ending, semicolon, assignment, ending_mark, Symbol, Just, Say, Id, Names, Version, Declarations, EndOfText, SkippedName, SkippedEnd, Routine, Until, Underlying, DataTypeThen, WidthOr, FixedWidthOr, FixedOr, BoundsOrOf, OptionalOr, UniqueOr, Running, TypeEnd, Rules, Labelled, Head, Super, SuperOf, Sub, Body, AnAttribute, Explicits, OptionalDataType, Inverted, Holder, Uniques, UniqueNamed, refused, next}
 
 -- these tokens complete the symbol
 abbrev Completed : ℕ → Symbol → Type 0
@@ -84,7 +84,7 @@ running_completed levels part n (square ∷ inner) = by_first levels (Running pa
 running_completed levels part n (brace ∷ inner) = by_first levels (Running part n (brace ∷ inner) true)
     (Running part n inner true) (token (mark marks.CloseBrace)) refl (running_completed levels part n inner)
 
--- .. behind a word where none has stood
+-- a run that may have no word yet is completed
 run_completed : (levels : ℕ) (part : RunEnd) (n : ℕ) (inner : List Bracket) (some : Bool)
     → Completed levels (Running part n inner some)
 run_completed levels part n inner some = by_first levels (Running part n inner some) (Running part n inner true)

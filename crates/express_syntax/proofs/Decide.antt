@@ -3,21 +3,21 @@
 use Rattle.std.proofs.Common.{◌≡◌, ℕ, ◌+◌, ◌<◌, ◌≤◌, suc, ltb, Bool, true, false, if◌then◌else◌, List, [], ◌∷◌, ◌++◌, length, Option, None, Some, map, codes, refl, sym, ap, ◌∙◌, subst, arith, append-nil, ◌⊎◌, inl, inr}
 use Rattle.std.specs.Str.{bytes_eq}
 use Rattle.std.proofs.lemmas.Slice.Eq.{bytes_eq-Decides}
-use Rattle.express_lexis.specs.declared.marks.Mark.{Mark}
-use Rattle.express_lexis.specs.declared.marks.Mark.TheVariants as marks
-use Rattle.express_lexis.specs.Marks.{mark_text}
+use Rattle.express_lexer.specs.declared.marks.Mark.{Mark}
+use Rattle.express_lexer.specs.declared.marks.Mark.TheVariants as marks
+use Rattle.express_lexer.specs.Marks.{mark_text}
 use Rattle.express_syntax.specs.declared.keyword.Keyword.{Keyword}
 use Rattle.express_syntax.specs.declared.keyword.Keyword.TheVariants as keywords
 use Rattle.express_syntax.specs.declared.expression.Sign.TheVariants as signs
 use Rattle.express_syntax.specs.Keywords.{keyword_text, keyword_at}
 use Rattle.express_syntax.specs.Words.{Word, keyword, name, integer, real, string, encoded, binary, mark}
 use Rattle.express_syntax.specs.Trees.{Tree, literal, signed, reference, parenthesized, aggregate, interval, query, call, nvl, negation, conjunction, disjunction, comparison, Trees, none, one, Alternatives, finish, another, Qualifiers, plain, attribute, group, index, words}
-use Rattle.express_syntax.specs.Grammar.{Level, primary, unary, term, simple, expression, rank, depth_limit, Fits, FitsEach, FitsOthers, FitsAlternatives, FitsMore, FitsQualifiers, IsExpression, IsNone}
+use Rattle.express_syntax.specs.Grammar.{Level, primary, unary, term, simple, expression, level_rank, depth_limit, FitsLevel, FitsEach, FitsOthers, FitsAlternatives, FitsMore, FitsQualifiers, IsExpression, IsNone}
 use Rattle.express_syntax.proofs.Parser.{parser}
 use Rattle.express_syntax.proofs.Parsed.{reads}
 use Rattle.express_syntax.proofs.Nothing.{none_parsed, none_fits}
 use Rattle.express_syntax.specs.Schemas as schemas
-use Rattle.express_syntax.specs.Written.{words_of_name, words_of_names, words_of_bound, joined}
+use Rattle.express_syntax.specs.WrittenSchemas.{words_of_name, words_of_names, words_of_bound, concatenated}
 use Rattle.express_syntax.specs.Profile.{IsFilled, IsBoundText, IsSupertypeText}
 
 -- it holds or it doesn't
@@ -192,7 +192,7 @@ keyword_decided k j = by (bytes_decided (keyword_text k) (keyword_text j))
     by (inl e) = inl (keyword_is k j ((bytes_eq-Decides (keyword_text k) (keyword_text j)).1 e))
     by (inr f) = inr (λ e. f (ap keyword_text e))
 
--- .. of which a word is made
+-- equality of words with one constructor is decided if that of their parts is
 made : {A : Type 0} (c : A → Word) (a b : A) → (c a ≡ c b → a ≡ b) → Decided (a ≡ b) → Decided (c a ≡ c b)
 made c a b inside (inl e) = inl (ap c e)
 made c a b inside (inr f) = inr (λ e. f (inside e))
@@ -221,9 +221,9 @@ words_decided (x ∷ v) (y ∷ w) = by (word_decided x y) (words_decided v w)
 
 -- whether a tree fits
 mutual
-  pub fits_decided : (n : ℕ) (l : Level) (x : Tree) → Decided (Fits n l x)
+  pub fits_decided : (n : ℕ) (l : Level) (x : Tree) → Decided (FitsLevel n l x)
   fits_decided n l (literal v) = inl tt
-  fits_decided n l (signed s v) = at_most (rank unary) (rank l)
+  fits_decided n l (signed s v) = at_most (level_rank unary) (level_rank l)
   fits_decided n l (reference r qs) = qualifiers_decided n qs
   fits_decided n l (parenthesized x) = both (below n depth_limit) (fits_decided (n + 1) expression x)
   fits_decided n l (aggregate xs) = both (below n depth_limit) (each_decided (n + 1) expression xs)
@@ -234,12 +234,12 @@ mutual
   fits_decided n l (call f x) = both (below n depth_limit) (fits_decided (n + 1) expression x)
   fits_decided n l (nvl x y) = all_three (below n depth_limit) (fits_decided (n + 1) expression x)
       (fits_decided (n + 1) expression y)
-  fits_decided n l (negation x) = both (at_most (rank unary) (rank l)) (fits_decided n primary x)
-  fits_decided n l (conjunction x xs) = all_three (at_most (rank term) (rank l)) (fits_decided n unary x)
+  fits_decided n l (negation x) = both (at_most (level_rank unary) (level_rank l)) (fits_decided n primary x)
+  fits_decided n l (conjunction x xs) = all_three (at_most (level_rank term) (level_rank l)) (fits_decided n unary x)
       (others_decided n xs)
-  fits_decided n l (disjunction x xs) = all_three (at_most (rank simple) (rank l)) (fits_decided n term x)
+  fits_decided n l (disjunction x xs) = all_three (at_most (level_rank simple) (level_rank l)) (fits_decided n term x)
       (alternatives_decided n xs)
-  fits_decided n l (comparison x r y) = all_three (at_most (rank expression) (rank l)) (fits_decided n simple x)
+  fits_decided n l (comparison x r y) = all_three (at_most (level_rank expression) (level_rank l)) (fits_decided n simple x)
       (fits_decided n simple y)
 
   pub each_decided : (n : ℕ) (l : Level) (xs : Trees) → Decided (FitsEach n l xs)
@@ -275,7 +275,7 @@ expression_decided n ws = by ((parser (suc (length ws))).at expression ws) refl
     by (Some (x, w ∷ more)) e = inr (none_parsed n ws (rw e refl))
     by (Some (x, [])) e = whole (fits_decided n expression x) (words_decided ws (words x))
       where
-        whole : Decided (Fits n expression x) → Decided (ws ≡ words x) → ((x : Tree) × IsExpression n ws x)
+        whole : Decided (FitsLevel n expression x) → Decided (ws ≡ words x) → ((x : Tree) × IsExpression n ws x)
             ⊎ IsNone n ws
         whole (inl f) (inl s) = inl (x, record { fits = f; spelled = s })
         whole (inr f) s = inr (none_fits n ws x e f)
@@ -350,7 +350,7 @@ names_in (w ∷ ws) = names_in ws
 
 -- names with a comma before each
 abbrev pub words_of_more_names : List (List ℕ) → List Word
-words_of_more_names names = joined (map (λ us. mark marks.Comma ∷ us) (map words_of_name names))
+words_of_more_names names = concatenated (map (λ us. mark marks.Comma ∷ us) (map words_of_name names))
 
 names_in_more : (names : List (List ℕ)) → names_in (words_of_more_names names ++ mark marks.Close ∷ []) ≡ names
 unfolding names_in

@@ -4,21 +4,21 @@ use Rattle.parsing.specs.Tables.{lookaheads, stops}
 use Rattle.parsing.specs.Languages as languages
 use Rattle.parsing.proofs.Shown.{shows_split}
 use Rattle.parsing.proofs.Ending.{ShowsOne, shown_to_last, BeginsWhole, whole_or_stops}
-use Rattle.express_lexis.specs.declared.token.Token.{Token}
-use Rattle.express_lexis.specs.declared.token.TextFault.{TextFault}
-use Rattle.express_lexis.specs.Reading.{Reading, Answers, start}
-use Rattle.express_lexis.proofs.Determined.{places_rise}
-use Rattle.express_lexis.proofs.ReadingLemmas.{token_within, start_within}
-use Rattle.express_lexis.proofs.Answered.{answered}
+use Rattle.express_lexer.specs.declared.token.Token.{Token}
+use Rattle.express_lexer.specs.declared.token.TextFault.{TextFault}
+use Rattle.express_lexer.specs.Reading.{Reading, Answers, start}
+use Rattle.express_lexer.proofs.Determined.{places_rise}
+use Rattle.express_lexer.proofs.ReadingLemmas.{token_within, start_within}
+use Rattle.express_lexer.proofs.Answered.{answered}
 use Rattle.express_syntax.specs.Words.{Word}
 use Rattle.express_syntax.specs.Grammar.{depth_limit}
 use Rattle.express_syntax.specs.declared.fault.FaultKind.{FaultKind}
 use Rattle.express_syntax.specs.Schemas.{Schema}
-use Rattle.express_syntax.specs.Written.{words_of_schema}
+use Rattle.express_syntax.specs.WrittenSchemas.{words_of_schema}
 use Rattle.express_syntax.specs.Texts.{Lookahead, token, flawed, end_of_text, LocatedToken, located, Shows, shows_token, shows_fault, shows_end, ShowsAll, ReadsAs, IsFirstFault}
 use Rattle.express_syntax.specs.SchemaLaws.{ReadsOrFails}
-use Rattle.express_syntax.specs.Predict.{schema_symbols, run}
-use Rattle.express_syntax.specs.Steps.{table, IsSchema}
+use Rattle.express_syntax.specs.steps.Predict.{schema_symbols, run}
+use Rattle.express_syntax.specs.steps.Steps.{table, IsSchema}
 use Rattle.express_syntax.proofs.Complete.{IsAny}
 use Rattle.express_syntax.proofs.Exact.{exact}
 use Rattle.express_syntax.proofs.FaultKinds.{nothing_more, one_more, ended_once}

@@ -3,8 +3,8 @@ use Rattle.std.proofs.Common.{ℕ, ◌≤◌}
 use Rattle.parsing.specs.Languages.{IsExact}
 use Rattle.parsing.proofs.Accepted.{exact_leads}
 use Rattle.express_syntax.specs.Grammar.{depth_limit}
-use Rattle.express_syntax.specs.Predict.{next, schema_symbols}
-use Rattle.express_syntax.specs.Steps.{IsSchema}
+use Rattle.express_syntax.specs.steps.Predict.{next, schema_symbols}
+use Rattle.express_syntax.specs.steps.Steps.{IsSchema}
 use Rattle.express_syntax.proofs.PassingSchemas.{pass_language}
 use Rattle.express_syntax.proofs.Complete.{IsAny, complete}
 use Rattle.express_syntax.proofs.Sound.{schema_led}

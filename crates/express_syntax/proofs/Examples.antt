@@ -1,6 +1,6 @@
 -- Words of expressions, and words of none.
 use Rattle.std.proofs.Common.{ℕ, ◌<◌, List, [], ◌∷◌, refl, arith, codes}
-use Rattle.express_lexis.specs.declared.marks.Mark.TheVariants as marks
+use Rattle.express_lexer.specs.declared.marks.Mark.TheVariants as marks
 use Rattle.express_syntax.specs.declared.keyword.Keyword.TheVariants as keywords
 use Rattle.express_syntax.specs.declared.expression.Sign.TheVariants as signs
 use Rattle.express_syntax.specs.declared.expression.Relation.TheVariants as relations

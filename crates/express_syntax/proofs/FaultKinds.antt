@@ -12,10 +12,10 @@ use Rattle.express_syntax.specs.declared.fault.FaultKind.{FaultKind}
 use Rattle.express_syntax.specs.declared.fault.FaultKind.TheVariants as fault_kinds
 use Rattle.express_syntax.specs.declared.fault.LeftOut.{LeftOut}
 use Rattle.express_syntax.specs.declared.fault.LeftOut.TheVariants as left_out
-use Rattle.express_syntax.specs.Written.{words_of_schema}
+use Rattle.express_syntax.specs.WrittenSchemas.{words_of_schema}
 use Rattle.express_syntax.specs.Texts.{Lookahead, token, flawed, end_of_text, LocatedToken, IsViablePrefix, IsInSkipped, IsLeftOut, FaultApplies, IsKind}
-use Rattle.express_syntax.specs.Predict.{Symbol, SkippedName, SkippedEnd, Routine, Until, next, schema_symbols}
-use Rattle.express_syntax.specs.Steps.{table, IsSchema}
+use Rattle.express_syntax.specs.steps.Predict.{Symbol, SkippedName, SkippedEnd, Routine, Until, next, schema_symbols}
+use Rattle.express_syntax.specs.steps.Steps.{table, IsSchema}
 use Rattle.express_syntax.proofs.Prefixes.{front_of, of_front}
 use Rattle.express_syntax.proofs.Complete.{IsAny}
 use Rattle.express_syntax.proofs.Exact.{exact}
@@ -112,7 +112,7 @@ module _ (before : List LocatedToken) (at : LocatedToken) (top : Symbol) (others
   inside_it : place_of top ≡ in_skipped → IsInSkipped (lookaheads before)
   inside_it e = skipping_inside before top others reached (place_skipping top e)
 
-  -- what is left out there is left out by the definition ..
+  -- what is left out there is left out by the definition
   left_due : (p : Place) → place_of top ≡ p → (part : LeftOut) → Leaves p at.lookahead part
       → IsLeftOut (lookaheads before) at.lookahead part
   left_due in_skipped e part h = absurd h
@@ -125,7 +125,7 @@ module _ (before : List LocatedToken) (at : LocatedToken) (top : Symbol) (others
   left_due in_schema e left_out.SecondSchema h = (h, outside in_schema e (λ d. cc))
   left_due in_schema e left_out.TooLarge h = h
 
-  -- .. and the other way
+  -- what is left out by the definition is left out here
   left_stands : (p : Place) → place_of top ≡ p → (part : LeftOut) → IsLeftOut (lookaheads before) at.lookahead part
       → Leaves p at.lookahead part
   left_stands in_skipped e left_out.Use h = h.1 (inside_it e)
@@ -145,7 +145,7 @@ module _ (before : List LocatedToken) (at : LocatedToken) (top : Symbol) (others
   left_stands in_schema e left_out.SecondSchema h = h.0
   left_stands in_schema e left_out.TooLarge h = h
 
-  -- with one bracket more it would stand ..
+  -- with one bracket more it would stand
   front_deeper : (zs : List Symbol) → next (depth_limit + 1) top at.lookahead ≡ Ok zs → IsViablePrefix (depth_limit + 1)
       (lookaheads before ++ at.lookahead ∷ [])
   front_deeper zs e =
@@ -156,7 +156,7 @@ module _ (before : List LocatedToken) (at : LocatedToken) (top : Symbol) (others
       subst (IsViablePrefix (depth_limit + 1)) (one_more before at)
       (front_of (depth_limit + 1) (lookaheads (before ++ at ∷ [])) f)
 
-  -- .. or not
+  -- with one more bracket the token isn't allowed either
   no_front_deeper : (k : FaultKind) → next (depth_limit + 1) top at.lookahead ≡ Err k → IsViablePrefix (depth_limit + 1)
       (lookaheads before ++ at.lookahead ∷ []) → ⊥
   no_front_deeper k e f =
@@ -197,7 +197,7 @@ module _ (before : List LocatedToken) (at : LocatedToken) (top : Symbol) (others
   deep_due fault_kinds.TooDeep t h = refl
   deep_due fault_kinds.Expected t h = absurd (no_front_deeper fault_kinds.Expected t.1 h)
 
-  -- .. and no other is, but that another token is expected
+  -- no other kind of fault applies, except that another token is expected
   pub only_due : (k : FaultKind) → table top at.lookahead ≡ Err k → (other : FaultKind)
       → (other ≡ fault_kinds.Expected → ⊥) → FaultApplies (lookaheads before) at.lookahead other → k ≡ other
   only_due k e fault_kinds.BadToken n h = bad_due k (reason k e) h
@@ -205,14 +205,14 @@ module _ (before : List LocatedToken) (at : LocatedToken) (top : Symbol) (others
   only_due k e fault_kinds.TooDeep n h = deep_due k (reason k e) h
   only_due k e fault_kinds.Expected n h = absurd (n refl)
 
-  -- the table's kind is the fault's ..
+  -- the table's kind is the fault's
   pub data_type_of : (k : FaultKind) → table top at.lookahead ≡ Err k → IsKind (lookaheads before) at.lookahead k
   data_type_of fault_kinds.BadToken e = is_due fault_kinds.BadToken e
   data_type_of (fault_kinds.LeftOut part) e = is_due (fault_kinds.LeftOut part) e
   data_type_of fault_kinds.TooDeep e = is_due fault_kinds.TooDeep e
   data_type_of fault_kinds.Expected e = λ other n h. n (sym (only_due fault_kinds.Expected e other n h))
 
-  -- .. and no other is
+  -- no kind other than the table's is the fault's
   pub kind_is : (k other : FaultKind) → table top at.lookahead ≡ Err k → IsKind (lookaheads before) at.lookahead other
       → k ≡ other
   kind_is k fault_kinds.BadToken e h = only_due k e fault_kinds.BadToken (λ d. cc) h

@@ -8,17 +8,17 @@ use Rattle.parsing.proofs.Faults.{first_fault, spot_of, whole_ends}
 use Rattle.parsing.proofs.Shown.{IsMore, shown_alike, shows_join, shows_one}
 use Rattle.parsing.proofs.Texts as texts
 use Rattle.parsing.proofs.Turning.{stops_run}
-use Rattle.express_lexis.specs.Reading.{Reading, start}
+use Rattle.express_lexer.specs.Reading.{Reading, start}
 use Rattle.express_syntax.specs.Grammar.{depth_limit}
 use Rattle.express_syntax.specs.declared.fault.FaultKind.{FaultKind}
 use Rattle.express_syntax.specs.declared.fault.SyntaxFault.{SyntaxFault}
 use Rattle.express_syntax.specs.declared.fault.SyntaxFault.TheVariants as faults
 use Rattle.express_syntax.specs.Schemas.{Schema}
-use Rattle.express_syntax.specs.Faults.{schema_fault}
+use Rattle.express_syntax.specs.steps.Faults.{schema_fault}
 use Rattle.express_syntax.specs.Texts.{LocatedToken, Shows, ShowsAll, ReadsAs, IsKind, IsFirstFault, IsFaultOf, IsMemory}
 use Rattle.express_syntax.specs.SchemaLaws.{ReadsWithoutFault, FaultsOnce}
-use Rattle.express_syntax.specs.Predict.{schema_symbols, run}
-use Rattle.express_syntax.specs.Steps.{table, IsSchema, StopsIn}
+use Rattle.express_syntax.specs.steps.Predict.{schema_symbols, run}
+use Rattle.express_syntax.specs.steps.Steps.{table, IsSchema, StopsIn}
 use Rattle.express_syntax.proofs.Shown.{shown_once}
 use Rattle.express_syntax.proofs.Prefixes.{front_of, of_front, fault_of, same_token, same_place}
 use Rattle.express_syntax.proofs.Complete.{IsAny}

@@ -5,17 +5,17 @@ use Rattle.parsing.specs.Languages.{AllAre}
 use Rattle.parsing.proofs.Lists.{lookaheads_append}
 use Rattle.parsing.proofs.Leading.{Leads, leads_join, leads_split, leads_more}
 use Rattle.parsing.proofs.Running.{Reaches, reaches_more, reaches_join, reaches_once, reaches_parts, completes, passed}
-use Rattle.express_lexis.specs.declared.marks.Mark.TheVariants as marks
+use Rattle.express_lexer.specs.declared.marks.Mark.TheVariants as marks
 use Rattle.express_syntax.specs.declared.keyword.Keyword.TheVariants as keywords
 use Rattle.express_syntax.specs.Words.{Word, keyword, name, mark}
 use Rattle.express_syntax.specs.Grammar.{depth_limit}
 use Rattle.express_syntax.specs.Runs as runs
 use Rattle.express_syntax.specs.Runs.{words_of_routine, FitsRoutine}
 use Rattle.express_syntax.specs.Schemas.{Skipped, function, procedure, rule, constants, subtype_constraint, Declaration, Schema}
-use Rattle.express_syntax.specs.Written.{joined, words_of_skipped, words_of_declaration, words_of_opening}
+use Rattle.express_syntax.specs.WrittenSchemas.{concatenated, words_of_skipped, words_of_declaration, words_of_opening}
 use Rattle.express_syntax.specs.Profile.{IsWithout, FitsSkipped, FitsDeclaration, FitsSchema}
 use Rattle.express_syntax.specs.Texts.{Lookahead, token, end_of_text, LocatedToken, lookaheads_of, IsInSkipped}
-use Rattle.express_syntax.specs.Predict.{Symbol, Just, Say, Id, Version, Declarations, EndOfText, SkippedName, SkippedEnd, Routine, Until, next, next_declaration, schema_symbols}
+use Rattle.express_syntax.specs.steps.Predict.{Symbol, Just, Say, Id, Version, Declarations, EndOfText, SkippedName, SkippedEnd, Routine, Until, next, next_declaration, schema_symbols}
 use Rattle.express_syntax.proofs.Complete.{IsAny, all_any, complete}
 use Rattle.express_syntax.proofs.Passing.{Goal, Led, by_itself, leads_part}
 use Rattle.express_syntax.proofs.PassingEntities.{pass_each}
@@ -217,14 +217,14 @@ inside levels d (suc fuel) (t ∷ q) l top others h k = by (λ v g. inside level
     by go (begins_skipped n us a b c e) = on_skipped go n us a b c e (behind us e)
     by go (refuses j f e) = absurd (let g : next_declaration t.lookahead ≡ Ok h.0 = h.1 in cc)
 
--- .. the whole declarations are those of a schema ..
+-- the whole declarations are those of a schema
 abbrev Ended : List Lookahead
 Ended = token (keyword keywords.EndSchema) ∷ token (mark marks.Semicolon) ∷ end_of_text ∷ []
 
 schema_lookaheads : (x : Schema) → lookaheads_of x ≡ map token (words_of_opening x
-    ++ joined (map words_of_declaration x.declarations)) ++ Ended
+    ++ concatenated (map words_of_declaration x.declarations)) ++ Ended
 schema_lookaheads x =
-    let front = words_of_opening x ++ joined (map words_of_declaration x.declarations) in
+    let front = words_of_opening x ++ concatenated (map words_of_declaration x.declarations) in
     let end = keyword keywords.EndSchema ∷ mark marks.Semicolon ∷ [] in
     ap (λ l. l ++ end_of_text ∷ []) (map_append front end) ∙ append_assoc (map token front) (map token end)
     (end_of_text ∷ [])
@@ -233,7 +233,7 @@ whole_schema : (levels : ℕ) (u v : List LocatedToken) → Reaches (next levels
     → Reaches (next levels) (Declarations ∷ []) v (Declarations ∷ [])
     → (x : Schema) × FitsSchema levels x
     × (lookaheads u ++ lookaheads v ≡ map token (words_of_opening x
-    ++ joined (map words_of_declaration x.declarations)))
+    ++ concatenated (map words_of_declaration x.declarations)))
 whole_schema levels u v h g =
     let end : Leads (next levels) Rest Ended [] = (Just marks.Semicolon ∷ [], refl, ([], refl, ([], refl, refl))) in
     let a = leads_join (next levels) (lookaheads v) Ended Rest Rest [] (leads_more (next levels) (lookaheads v)
@@ -241,14 +241,14 @@ whole_schema levels u v h g =
     let b = leads_join (next levels) (lookaheads u) (lookaheads v ++ Ended) schema_symbols Rest []
     (leads_more (next levels) (lookaheads u) Opening [] Rest h) a in
     let x = schema_led levels (lookaheads u ++ (lookaheads v ++ Ended)) b in
-    let front = map token (words_of_opening x.0 ++ joined (map words_of_declaration x.0.declarations)) in (
+    let front = map token (words_of_opening x.0 ++ concatenated (map words_of_declaration x.0.declarations)) in (
       x.0,
       x.1,
       cancel_right (lookaheads u ++ lookaheads v) front Ended (append_assoc (lookaheads u) (lookaheads v) Ended
           ∙ x.2 ∙ schema_lookaheads x.0),
     )
 
--- .. and some words complete the one that is begun
+-- some words complete the declaration that is begun
 skipping_inner : (ys : List Symbol) → AllAre IsSkipping ys → AllAre IsInner ys
 skipping_inner [] h = tt
 skipping_inner (y ∷ ys) h = (inner y h.0, skipping_inner ys h.1)
@@ -300,7 +300,7 @@ skipping_inside before top others h k = by (reaches_parts (next depth_limit) bef
     found u v e g i =
         let x = whole_schema depth_limit u i.whole g i.declared in
         let s = begun_skipped depth_limit v top i in
-        let front = words_of_opening x.0 ++ joined (map words_of_declaration x.0.declarations) in
+        let front = words_of_opening x.0 ++ concatenated (map words_of_declaration x.0.declarations) in
         record {
           x = x.0;
           fits = x.1;
@@ -402,7 +402,7 @@ skipped_leads levels deep (constants us) f = constants_leads levels deep us f
 skipped_leads levels deep (subtype_constraint n us) f = until_leads levels deep (subtype_constraint n us)
     (codes "SUBTYPE_CONSTRAINT") n (codes "END_SUBTYPE_CONSTRAINT") us f refl refl
 
--- .. so the front of them leaves one of these symbols
+-- a proper prefix of the words leaves one of these symbols
 stands_first : (levels : ℕ) (zs : List Symbol) (rest : List Word) → 0 < length rest
     → Leads (next levels) zs (map token rest) [] → AllAre IsSkipping zs → (y : Symbol) × (ys : List Symbol)
     × (zs ≡ y ∷ ys) × IsSkipping y
@@ -464,7 +464,7 @@ inside_skipping before top others i h =
       ends = λ e. absurd (let n : map token i.part ≡ token p.word ∷ map token p.more = ap (map token) p.words in cc);
     }
     in
-    let declarations = joined (map words_of_declaration i.x.declarations) in
+    let declarations = concatenated (map words_of_declaration i.x.declarations) in
     let a = pass_each g Declarations (EndOfText ∷ []) Declaration words_of_declaration (FitsDeclaration depth_limit)
     (pass_declaration g (EndOfText ∷ [])) i.x.declarations [] i.fits.1 p.leads in
     let b = pass_opening g i.x Rest (declarations ++ []) i.fits.0 a in

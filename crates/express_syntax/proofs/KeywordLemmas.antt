@@ -13,7 +13,7 @@ use Rattle.express_syntax.specs.declared.keyword.Keyword.{Keyword}
 use Rattle.express_syntax.specs.declared.keyword.Keyword.TheVariants as keywords
 use Rattle.express_syntax.specs.Keywords.{keyword_text, keyword_among, keyword_at, every_keyword}
 use Rattle.express_syntax.specs.Words.{Word, keyword}
-use Rattle.express_syntax.specs.Letters.{first_of, keywords_from}
+use Rattle.express_syntax.specs.steps.Letters.{first_of, keywords_from}
 
 in_capitals : (k : Keyword) → upper (keyword_text k) ≡ keyword_text k
 in_capitals keywords.Abstract = refl

@@ -1,8 +1,8 @@
 -- Lists with one more at the end, and what is written of them.
 use Rattle.std.proofs.Common.{◌≡◌, List, [], ◌∷◌, ◌++◌, map, refl, sym, ap, ◌∙◌, append_assoc, append-nil}
-use Rattle.express_lexis.specs.declared.marks.Mark.TheVariants as marks
+use Rattle.express_lexer.specs.declared.marks.Mark.TheVariants as marks
 use Rattle.express_syntax.specs.Words.{Word, mark}
-use Rattle.express_syntax.specs.Written.{joined, with_commas}
+use Rattle.express_syntax.specs.WrittenSchemas.{concatenated, with_commas}
 use Rattle.express_syntax.specs.Profile.{Every, IsFilled}
 
 pub every_push : {A : Type 0} (Fit : A → Type 0) (xs : List A) (x : A) → Every Fit xs → Fit x → Every Fit (xs ++ x ∷ [])
@@ -18,10 +18,10 @@ map_push f [] x = refl
 map_push f (y ∷ ys) x = ap (λ l. f y ∷ l) (map_push f ys x)
 
 pub joined_push : {A : Type 0} (write : A → List Word) (xs : List A) (x : A)
-    → joined (map write (xs ++ x ∷ [])) ≡ joined (map write xs) ++ write x
+    → concatenated (map write (xs ++ x ∷ [])) ≡ concatenated (map write xs) ++ write x
 joined_push write [] x = append-nil (write x)
 joined_push write (y ∷ ys) x = ap (λ l. write y ++ l) (joined_push write ys x)
-    ∙ sym (append_assoc (write y) (joined (map write ys)) (write x))
+    ∙ sym (append_assoc (write y) (concatenated (map write ys)) (write x))
 
 -- with commas between
 pub commas_push : {A : Type 0} (write : A → List Word) (xs : List A) (x : A) → IsFilled xs
@@ -29,6 +29,6 @@ pub commas_push : {A : Type 0} (write : A → List Word) (xs : List A) (x : A) �
 commas_push write [] x h = absurd h
 commas_push write (y ∷ ys) x h =
     let comma : List Word → List Word = λ ws. mark marks.Comma ∷ ws in
-    ap (λ l. write y ++ joined (map comma l)) (map_push write ys x)
+    ap (λ l. write y ++ concatenated (map comma l)) (map_push write ys x)
     ∙ ap (λ l. write y ++ l) (joined_push comma (map write ys) (write x))
-    ∙ sym (append_assoc (write y) (joined (map comma (map write ys))) (mark marks.Comma ∷ write x))
+    ∙ sym (append_assoc (write y) (concatenated (map comma (map write ys))) (mark marks.Comma ∷ write x))

@@ -4,14 +4,14 @@ use Rattle.std.proofs.lemmas.Bool.{false≢true}
 use Rattle.std.proofs.lemmas.Slice.Eq.{bytes_eq-Decides}
 use Rattle.parsing.specs.Tables.{lookaheads}
 use Rattle.parsing.proofs.Turning as turning
-use Rattle.express_lexis.specs.declared.marks.Mark.{Mark}
-use Rattle.express_lexis.specs.declared.token.Token.{Token}
-use Rattle.express_lexis.specs.declared.token.TextFault.{TextFault}
-use Rattle.express_lexis.specs.Marks.{mark_text}
-use Rattle.express_lexis.specs.Layout.{joined}
-use Rattle.express_lexis.specs.Reading.{Reading, Takes, IsAtEnd, IsFaulty, left}
-use Rattle.express_lexis.proofs.MarkLemmas.{one_mark}
-use Rattle.express_lexis.proofs.ReadingLemmas.{some_bytes}
+use Rattle.express_lexer.specs.declared.marks.Mark.{Mark}
+use Rattle.express_lexer.specs.declared.token.Token.{Token}
+use Rattle.express_lexer.specs.declared.token.TextFault.{TextFault}
+use Rattle.express_lexer.specs.Marks.{mark_text}
+use Rattle.express_lexer.specs.Layout.{joined}
+use Rattle.express_lexer.specs.Reading.{Reading, Takes, IsAtEnd, IsFaulty, left}
+use Rattle.express_lexer.proofs.MarkLemmas.{one_mark}
+use Rattle.express_lexer.proofs.ReadingLemmas.{some_bytes}
 use Rattle.express_syntax.specs.declared.keyword.Keyword.{Keyword}
 use Rattle.express_syntax.specs.declared.keyword.Keyword.TheVariants as keywords
 use Rattle.express_syntax.specs.declared.lexeme.Lexeme.{Lexeme}
@@ -23,8 +23,8 @@ use Rattle.express_syntax.specs.declared.fault.FaultKind.TheVariants as fault_ki
 use Rattle.express_syntax.specs.declared.fault.SyntaxFault.{SyntaxFault}
 use Rattle.express_syntax.specs.declared.fault.SyntaxFault.TheVariants as faults
 use Rattle.express_syntax.specs.Texts.{Lookahead, token, flawed, end_of_text, LocatedToken, ShowsAll, Shows, shows_token, shows_fault, shows_end}
-use Rattle.express_syntax.specs.Predict.{Symbol, Just, Say, Id, EndOfText, next, refused, is_mark, is_keyword}
-use Rattle.express_syntax.specs.Steps.{Reads, StopsIn, Passes}
+use Rattle.express_syntax.specs.steps.Predict.{Symbol, Just, Say, Id, EndOfText, next, refused, is_mark, is_keyword}
+use Rattle.express_syntax.specs.steps.Steps.{Reads, StopsIn, Passes}
 use Rattle.express_syntax.proofs.Turning.{stops_shown}
 
 at_end : (y : Symbol) → (y ≡ EndOfText → ⊥) → next depth_limit y end_of_text ≡ Err fault_kinds.Expected

@@ -2,7 +2,7 @@
 use Rattle.std.proofs.Common.{◌≡◌, ℕ, suc, Bool, true, false, List, [], ◌∷◌, ◌++◌, length, Option, None, Some, sym, ap, ◌∙◌, subst, arith, append-nil}
 use Rattle.express_syntax.specs.Words.{Word}
 use Rattle.express_syntax.specs.Trees.{Tree, words}
-use Rattle.express_syntax.specs.Grammar.{expression, Fits, IsNone}
+use Rattle.express_syntax.specs.Grammar.{expression, FitsLevel, IsNone}
 use Rattle.express_syntax.proofs.Parser.{parser}
 use Rattle.express_syntax.proofs.Parsed.{reads}
 
@@ -23,7 +23,7 @@ none_parsed n ws refused x h =
 
 -- nor are those whose one tree doesn't fit
 pub none_fits : (n : ℕ) (ws : List Word) (y : Tree) → (parser (suc (length ws))).at expression ws ≡ Some (y, [])
-    → (Fits n expression y → ⊥) → IsNone n ws
+    → (FitsLevel n expression y → ⊥) → IsNone n ws
 none_fits n ws y read unfit x h =
     let long : length ws ≡ length (words x) = ap length h.spelled in
     let d : ws ≡ words x ++ [] = h.spelled ∙ sym (append-nil (words x)) in
@@ -31,5 +31,5 @@ none_fits n ws y read unfit x h =
     sym (reads x n expression [] (suc (length ws)) h.fits tt (omega arith))
     ∙ sym (ap ((parser (suc (length ws))).at expression) d) ∙ read in
     let f : Option (Tree × List Word) → Tree = elim [ None ↦ y | Some p ↦ p.0 ] in
-    let P : Tree → Type 0 = Fits n expression in
+    let P : Tree → Type 0 = FitsLevel n expression in
     unfit (subst P (ap f e) h.fits)

@@ -1,6 +1,6 @@
 -- The parser gives back each tree that fits from its words.
 use Rattle.std.proofs.Common.{◌≡◌, ℕ, zero, suc, ◌+◌, ◌<◌, ◌≤◌, List, [], ◌∷◌, ◌++◌, length, None, Some, refl, ap, ◌∙◌, append_assoc, arith, length-append}
-use Rattle.express_lexis.specs.declared.marks.Mark.TheVariants as marks
+use Rattle.express_lexer.specs.declared.marks.Mark.TheVariants as marks
 use Rattle.express_syntax.specs.declared.keyword.Keyword.TheVariants as keywords
 use Rattle.express_syntax.specs.declared.expression.Sign.{Sign}
 use Rattle.express_syntax.specs.declared.expression.Sign.TheVariants as signs
@@ -15,8 +15,8 @@ use Rattle.express_syntax.specs.declared.expression.Function.{Function}
 use Rattle.express_syntax.specs.declared.expression.Function.TheVariants as functions
 use Rattle.express_syntax.specs.Words.{Word, keyword, mark}
 use Rattle.express_syntax.specs.Trees.{Number, whole, decimal, Literal, number, text, codes_of_text, bits, constant, indeterminate, Root, own, named, Tree, literal, signed, reference, parenthesized, aggregate, interval, query, call, nvl, negation, conjunction, disjunction, comparison, Trees, none, one, Alternatives, finish, another, Qualifiers, plain, attribute, group, index, word_of_literal, word_of_root, word_of_number, word_of_sign, word_of_relation, word_of_limit, word_of_junction, word_of_function, words, words_of_trees, words_of_others, words_of_alternatives, words_of_qualifiers}
-use Rattle.express_syntax.specs.Grammar.{Level, primary, unary, term, simple, expression, rank, Fits, FitsEach, FitsMore, FitsQualifiers}
-use Rattle.express_syntax.specs.Reads.{Stops}
+use Rattle.express_syntax.specs.Grammar.{Level, primary, unary, term, simple, expression, level_rank, FitsLevel, FitsEach, FitsMore, FitsQualifiers}
+use Rattle.express_syntax.specs.steps.Reads.{Stops}
 use Rattle.express_syntax.proofs.Standing.{First, value, root, calling, denying, signing, first_of, conjunction_of, disjunction_of}
 use Rattle.express_syntax.proofs.Parser.{bind, past_close, past_number, past_limit, relation_of, junction_of, Parser, more_by, elements_by, qualifiers_by, primary_from, primary_by, unary_from, unary_by, conjuncts_by, term_by, alternatives_by, alternatives_from, simple_by, comparison_by, comparison_from, expression_by, at_by, parser}
 use Rattle.express_syntax.proofs.Stopping.{stops_any, stops_simple, stops_term, stops_to_term, stops_to_simple, stops_to_expression, no_relation, no_junction, conjuncts_behind, alternatives_behind, relation_behind, limit_behind, elements_behind}
@@ -109,8 +109,8 @@ up_expression : (p : Parser) (ws : List Word) (x : Tree) (r : List Word) → sim
     → Stops expression r → expression_by p ws ≡ Some (x, r)
 up_expression p ws x r e s = ap (λ o. bind o (λ a. comparison_by p a.0 a.1)) e ∙ no_comparison_by p x r s
 
--- .. and from any to any higher
-from_simple : (p : Parser) (l : Level) (ws : List Word) (x : Tree) (r : List Word) → rank simple ≤ rank l
+-- from any level to any higher one
+from_simple : (p : Parser) (l : Level) (ws : List Word) (x : Tree) (r : List Word) → level_rank simple ≤ level_rank l
     → simple_by p ws ≡ Some (x, r) → Stops l r → at_by p l ws ≡ Some (x, r)
 from_simple p primary ws x r k e s = absurd (omega arith)
 from_simple p unary ws x r k e s = absurd (omega arith)
@@ -118,7 +118,7 @@ from_simple p term ws x r k e s = absurd (omega arith)
 from_simple p simple ws x r k e s = e
 from_simple p expression ws x r k e s = up_expression p ws x r e s
 
-from_term : (p : Parser) (l : Level) (ws : List Word) (x : Tree) (r : List Word) → rank term ≤ rank l
+from_term : (p : Parser) (l : Level) (ws : List Word) (x : Tree) (r : List Word) → level_rank term ≤ level_rank l
     → term_by p ws ≡ Some (x, r) → Stops l r → at_by p l ws ≡ Some (x, r)
 from_term p primary ws x r k e s = absurd (omega arith)
 from_term p unary ws x r k e s = absurd (omega arith)
@@ -127,7 +127,7 @@ from_term p simple ws x r k e s = up_simple p ws x r e s
 from_term p expression ws x r k e s = from_simple p expression ws x r (omega arith)
     (up_simple p ws x r e (stops_simple r s)) s
 
-from_unary : (p : Parser) (l : Level) (ws : List Word) (x : Tree) (r : List Word) → rank unary ≤ rank l
+from_unary : (p : Parser) (l : Level) (ws : List Word) (x : Tree) (r : List Word) → level_rank unary ≤ level_rank l
     → unary_by p ws ≡ Some (x, r) → Stops l r → at_by p l ws ≡ Some (x, r)
 from_unary p primary ws x r k e s = absurd (omega arith)
 from_unary p unary ws x r k e s = e
@@ -144,7 +144,7 @@ from_primary p term ws x r e s = from_unary p term ws x r (omega arith) (up_unar
 from_primary p simple ws x r e s = from_unary p simple ws x r (omega arith) (up_unary p ws (x, r) e) s
 from_primary p expression ws x r e s = from_unary p expression ws x r (omega arith) (up_unary p ws (x, r) e) s
 
-from_expression : (p : Parser) (l : Level) (ws : List Word) (x : Tree) (r : List Word) → rank expression ≤ rank l
+from_expression : (p : Parser) (l : Level) (ws : List Word) (x : Tree) (r : List Word) → level_rank expression ≤ level_rank l
     → expression_by p ws ≡ Some (x, r) → at_by p l ws ≡ Some (x, r)
 from_expression p primary ws x r k e = absurd (omega arith)
 from_expression p unary ws x r k e = absurd (omega arith)
@@ -336,7 +336,7 @@ parse_index : (p : Parser) (x : Tree) (qs : Qualifiers) (r : List Word)
 parse_index p x qs r a b = rw (behind (words x) (words_of_qualifiers qs) r (mark marks.CloseBracket), a, b) refl
 
 mutual
-  pub reads : (x : Tree) (n : ℕ) (l : Level) (r : List Word) (f : ℕ) → Fits n l x → Stops l r → length (words x) < f
+  pub reads : (x : Tree) (n : ℕ) (l : Level) (r : List Word) (f : ℕ) → FitsLevel n l x → Stops l r → length (words x) < f
       → (parser f).at l (words x ++ r) ≡ Some (x, r)
   reads x n l r zero fits s h = absurd (omega arith)
   reads (literal v) n l r (suc f) fits s h = from_primary (parser f) l (word_of_literal v ∷ r) (literal v) r

@@ -1,7 +1,7 @@
 -- A parser as a function: uniqueness follows, since it gives back each tree from its words. Its steps are counted
 -- by the words: no call goes deeper than these.
 use Rattle.std.proofs.Common.{ℕ, zero, suc, List, [], ◌∷◌, Option, None, Some}
-use Rattle.express_lexis.specs.declared.marks.Mark.TheVariants as marks
+use Rattle.express_lexer.specs.declared.marks.Mark.TheVariants as marks
 use Rattle.express_syntax.specs.declared.keyword.Keyword.TheVariants as keywords
 use Rattle.express_syntax.specs.declared.expression.Relation.{Relation}
 use Rattle.express_syntax.specs.declared.expression.Relation.TheVariants as relations

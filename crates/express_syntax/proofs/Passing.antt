@@ -5,17 +5,17 @@ use Rattle.std.specs.Prelude.{true}
 use Rattle.std.specs.Str.{bytes_eq}
 use Rattle.std.proofs.lemmas.Slice.Eq.{bytes_eq-Decides}
 use Rattle.parsing.proofs.Leading.{Leads}
-use Rattle.express_lexis.specs.declared.marks.Mark.{Mark}
-use Rattle.express_lexis.specs.declared.marks.Mark.TheVariants as marks
-use Rattle.express_lexis.specs.Marks.{mark_text}
+use Rattle.express_lexer.specs.declared.marks.Mark.{Mark}
+use Rattle.express_lexer.specs.declared.marks.Mark.TheVariants as marks
+use Rattle.express_lexer.specs.Marks.{mark_text}
 use Rattle.express_syntax.specs.declared.keyword.Keyword.{Keyword}
 use Rattle.express_syntax.specs.Words.{Word, keyword, name, mark}
 use Rattle.express_syntax.specs.Grammar.{depth_limit}
 use Rattle.express_syntax.specs.Keywords.{keyword_text}
 use Rattle.express_syntax.specs.Texts.{Lookahead, token}
-use Rattle.express_syntax.specs.Written.{joined, words_of_name, words_of_names}
+use Rattle.express_syntax.specs.WrittenSchemas.{concatenated, words_of_name, words_of_names}
 use Rattle.express_syntax.specs.Profile.{IsFilled}
-use Rattle.express_syntax.specs.Predict.{Symbol, Just, Say, Id, Names, names_symbols, next}
+use Rattle.express_syntax.specs.steps.Predict.{Symbol, Just, Say, Id, Names, names_symbols, next}
 
 -- how many brackets may be open, what stands behind the words, and what is left to come then
 pub record Goal : Type 0 where
@@ -85,11 +85,11 @@ pass_id g n ys ws h = step g Id [] ys (name n) ws refl h
 
 -- the names behind the first
 pub pass_more_names : (g : Goal) (names : List (List ℕ)) (ys : List Symbol) (ws : List Word) → Led g ys ws
-    → Led g (Names ∷ ys) ((joined (map (λ us. mark marks.Comma ∷ us) (map words_of_name names)) ++ mark marks.Close
+    → Led g (Names ∷ ys) ((concatenated (map (λ us. mark marks.Comma ∷ us) (map words_of_name names)) ++ mark marks.Close
     ∷ []) ++ ws)
 pass_more_names g [] ys ws h = step g Names [] ys (mark marks.Close) ws refl h
 pass_more_names g (n ∷ names) ys ws h =
-    let more = (joined (map (λ us. mark marks.Comma ∷ us) (map words_of_name names)) ++ mark marks.Close ∷ []) ++ ws in
+    let more = (concatenated (map (λ us. mark marks.Comma ∷ us) (map words_of_name names)) ++ mark marks.Close ∷ []) ++ ws in
     step g Names (Id ∷ Names ∷ []) ys (mark marks.Comma) (name n ∷ more) refl
     (pass_id g n (Names ∷ ys) more (pass_more_names g names ys ws h))
 
@@ -98,7 +98,7 @@ pub pass_names : (g : Goal) (names : List (List ℕ)) (ys : List Symbol) (ws : L
     → Led g (names_symbols ++ ys) (words_of_names names ++ ws)
 pass_names g [] ys ws f h = absurd f
 pass_names g (n ∷ names) ys ws f h =
-    let more = (joined (map (λ us. mark marks.Comma ∷ us) (map words_of_name names)) ++ mark marks.Close ∷ []) ++ ws in
+    let more = (concatenated (map (λ us. mark marks.Comma ∷ us) (map words_of_name names)) ++ mark marks.Close ∷ []) ++ ws in
     pass_mark g marks.Open (Id ∷ Names ∷ ys) (name n ∷ more)
     (pass_id g n (Names ∷ ys) more (pass_more_names g names ys ws h))
 

@@ -1,6 +1,6 @@
 -- The words of bounds, widths and kinds lead to what is behind them.
 use Rattle.std.proofs.Common.{◌≡◌, ℕ, ◌+◌, ◌<◌, Bool, true, false, List, [], ◌∷◌, ◌++◌, Option, None, Some, Ok, refl}
-use Rattle.express_lexis.specs.declared.marks.Mark.TheVariants as marks
+use Rattle.express_lexer.specs.declared.marks.Mark.TheVariants as marks
 use Rattle.express_syntax.specs.declared.keyword.Keyword.TheVariants as keywords
 use Rattle.express_syntax.specs.declared.expression.Sign.{Sign}
 use Rattle.express_syntax.specs.declared.expression.Sign.TheVariants as signs
@@ -10,10 +10,10 @@ use Rattle.express_syntax.specs.Trees.{word_of_sign}
 use Rattle.express_syntax.specs.Runs.{words_of_run}
 use Rattle.express_syntax.specs.Texts.{Lookahead, token}
 use Rattle.express_syntax.specs.Schemas.{Bound, value, unlimited, other_bound, Bounds, Width, width, other_width, DataType, integer, number, boolean, logical, real, string, binary, named, array, list, bag, set}
-use Rattle.express_syntax.specs.Written.{said, words_of_bound, words_of_bounds, words_of_some_bounds, words_of_width, words_of_some_width, words_of_fixed, words_of_data_type}
+use Rattle.express_syntax.specs.WrittenSchemas.{said, words_of_bound, words_of_bounds, words_of_some_bounds, words_of_width, words_of_some_width, words_of_fixed, words_of_data_type}
 use Rattle.express_syntax.specs.Profile.{Maybe, FitsBound, FitsBounds, FitsWidth, FitsDataType}
-use Rattle.express_syntax.specs.Predict.{Symbol, Just, Say, RunEnd, Ending, ending_mark, semicolon, assignment, DataTypeThen, WidthOr, FixedWidthOr, FixedOr, BoundsOrOf, OptionalOr, UniqueOr, Running, bounds_symbols, next}
-use Rattle.express_syntax.specs.Predict as predict
+use Rattle.express_syntax.specs.steps.Predict.{Symbol, Just, Say, RunEnd, Ending, ending_mark, semicolon, assignment, DataTypeThen, WidthOr, FixedWidthOr, FixedOr, BoundsOrOf, OptionalOr, UniqueOr, Running, bounds_symbols, next}
+use Rattle.express_syntax.specs.steps.Predict as predict
 use Rattle.express_syntax.proofs.Passing.{Goal, Led, step, regroup, wider, pass_mark, pass_say}
 use Rattle.express_syntax.proofs.PassingRuns.{may_of, end_of, shallow, next_outside, pass_some, pass_end}
 use Rattle.express_syntax.proofs.PassingTrees.{quiet_sign}

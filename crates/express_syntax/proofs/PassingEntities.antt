@@ -1,15 +1,15 @@
 -- The words of an entity lead from its head through its clauses to its end.
 use Rattle.std.proofs.Common.{◌≡◌, ℕ, Bool, true, false, List, [], ◌∷◌, ◌++◌, Option, None, Some, Ok, refl, map}
-use Rattle.express_lexis.specs.declared.marks.Mark.TheVariants as marks
+use Rattle.express_lexer.specs.declared.marks.Mark.TheVariants as marks
 use Rattle.express_syntax.specs.declared.keyword.Keyword.{Keyword}
 use Rattle.express_syntax.specs.declared.keyword.Keyword.TheVariants as keywords
 use Rattle.express_syntax.specs.Words.{Word, keyword, name, mark}
 use Rattle.express_syntax.specs.Texts.{Lookahead, token}
 use Rattle.express_syntax.specs.Schemas.{Attribute, own, redeclared, Explicit, Derived, Collection, alone, in_set, in_bag, Inverse, Unique, Entity, Rule}
-use Rattle.express_syntax.specs.Written.{joined, said, with_commas, words_of_body, words_of_label, words_of_rule, words_of_clause, words_of_some_bounds, words_of_data_type, words_of_supertype, words_of_subtype, words_of_attribute, words_of_explicit, words_of_derived, words_of_collection, words_of_holder, words_of_inverse, words_of_unique, words_of_head, words_of_entity}
+use Rattle.express_syntax.specs.WrittenSchemas.{concatenated, said, with_commas, words_of_body, words_of_label, words_of_rule, words_of_clause, words_of_some_bounds, words_of_data_type, words_of_supertype, words_of_subtype, words_of_attribute, words_of_explicit, words_of_derived, words_of_collection, words_of_holder, words_of_inverse, words_of_unique, words_of_head, words_of_entity}
 use Rattle.express_syntax.specs.Profile.{Every, Maybe, IsFilled, FitsRules, FitsExplicit, FitsDerived, FitsCollection, FitsInverse, FitsUnique, FitsEntity}
-use Rattle.express_syntax.specs.Predict.{Symbol, Just, Say, Id, Declarations, Running, DataTypeThen, assignment, semicolon, BoundsOrOf, Rules, Head, Clause, explicits, derived, inverses, uniques, follows, Body, AnAttribute, Explicits, OptionalDataType, Inverted, Holder, Uniques, UniqueNamed, redeclared_symbols, next}
-use Rattle.express_syntax.specs.Predict as predict
+use Rattle.express_syntax.specs.steps.Predict.{Symbol, Just, Say, Id, Declarations, Running, DataTypeThen, assignment, semicolon, BoundsOrOf, Rules, Head, Clause, explicits, derived, inverses, uniques, follows, Body, AnAttribute, Explicits, OptionalDataType, Inverted, Holder, Uniques, UniqueNamed, redeclared_symbols, next}
+use Rattle.express_syntax.specs.steps.Predict as predict
 use Rattle.express_syntax.proofs.Passing.{Goal, Led, step, regroup, wider, pass_mark, pass_say, pass_id}
 use Rattle.express_syntax.proofs.PassingHeads.{pass_head}
 use Rattle.express_syntax.proofs.PassingRules.{pass_body, pass_rules, pass_rules_end}
@@ -32,7 +32,7 @@ pass_attribute g (redeclared e n) ys ws h =
 
 -- the attributes behind the first
 abbrev more_attributes : List Attribute → List Word
-more_attributes more = joined (map (λ us. mark marks.Comma ∷ us) (map words_of_attribute more))
+more_attributes more = concatenated (map (λ us. mark marks.Comma ∷ us) (map words_of_attribute more))
 
 pass_more : (g : Goal) (z : Symbol) (more : List Attribute) (ys : List Symbol) (ws : List Word)
     → next g.levels z (token (mark marks.Comma)) ≡ Ok (AnAttribute ∷ z ∷ [])
@@ -212,10 +212,10 @@ pass_unique_rule g ys u ws f h =
 pub pass_each : (g : Goal) (z : Symbol) (ys : List Symbol) (A : Type 0) (write : A → List Word) (Fit : A → Type 0)
     → ((x : A) (ws : List Word) → Fit x → Led g (z ∷ ys) ws → Led g (z ∷ ys) (write x ++ ws))
     → (xs : List A) (ws : List Word) → Every Fit xs → Led g (z ∷ ys) ws
-    → Led g (z ∷ ys) (joined (map write xs) ++ ws)
+    → Led g (z ∷ ys) (concatenated (map write xs) ++ ws)
 pass_each g z ys A write Fit one [] ws f h = h
 pass_each g z ys A write Fit one (x ∷ xs) ws f h =
-    let others = joined (map write xs) in
+    let others = concatenated (map write xs) in
     regroup g (z ∷ ys) (write x) others ws (one x (others ++ ws) f.0 (pass_each g z ys A write Fit one xs ws f.1 h))
 
 -- a clause that may be absent: what is behind it stands behind this one or behind one before it
@@ -227,7 +227,7 @@ pass_clause : (g : Goal) (c d : Clause) (k : Keyword) (ys : List Symbol) (A : Ty
     → Led g (Body c ∷ ys) (words_of_clause k write xs ++ ws)
 pass_clause g c d k ys A write Fit one e None ws f h later = h
 pass_clause g c d k ys A write Fit one e (Some xs) ws f h later =
-    step g (Body c) (Body d ∷ []) ys (keyword k) (joined (map write xs) ++ ws) e
+    step g (Body c) (Body d ∷ []) ys (keyword k) (concatenated (map write xs) ++ ws) e
     (pass_each g (Body d) ys A write Fit one xs ws f later)
 
 next_unique_clause : (levels : ℕ) (c : Clause) → follows c uniques ≡ true
@@ -247,7 +247,7 @@ pass_where g c None ys ws f h = step g (Body c) (Just marks.Semicolon ∷ []) ys
     (mark marks.Semicolon ∷ ws) refl (pass_mark g marks.Semicolon ys ws h)
 pass_where g c (Some rules) ys ws f h =
     let last = keyword keywords.EndEntity ∷ mark marks.Semicolon ∷ ws in
-    step g (Body c) (Rules keywords.EndEntity ∷ []) ys (keyword keywords.Where) (joined (map words_of_rule rules)
+    step g (Body c) (Rules keywords.EndEntity ∷ []) ys (keyword keywords.Where) (concatenated (map words_of_rule rules)
     ++ last) refl
     (pass_rules g keywords.EndEntity rules ys last f (pass_rules_end g keywords.EndEntity ys ws h))
 
@@ -292,7 +292,7 @@ pub pass_entity : (g : Goal) (e : Entity) (ys : List Symbol) (ws : List Word) �
 pass_entity g e ys ws f h =
     let all = Declarations ∷ ys in
     let head = words_of_head e in
-    let explicit = joined (map words_of_explicit e.explicits) in
+    let explicit = concatenated (map words_of_explicit e.explicits) in
     let derive = words_of_clause keywords.Derive words_of_derived e.derived in
     let inverse = words_of_clause keywords.Inverse words_of_inverse e.inverses in
     let unique = words_of_clause keywords.Unique words_of_unique e.uniques in

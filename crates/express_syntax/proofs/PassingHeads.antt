@@ -1,15 +1,15 @@
 -- The words of an entity's head lead to its semicolon.
 use Rattle.std.proofs.Common.{◌≡◌, ℕ, ◌+◌, ◌<◌, Bool, true, false, List, [], ◌∷◌, ◌++◌, length, Option, None, Some, Ok, refl, codes, map, arith}
-use Rattle.express_lexis.specs.declared.marks.Mark.TheVariants as marks
+use Rattle.express_lexer.specs.declared.marks.Mark.TheVariants as marks
 use Rattle.express_syntax.specs.declared.keyword.Keyword.TheVariants as keywords
 use Rattle.express_syntax.specs.Words.{Word, keyword, name, mark}
 use Rattle.express_syntax.specs.Texts.{Lookahead, token}
 use Rattle.express_syntax.specs.Runs.{Bracket, parenthesis, words_of_run}
 use Rattle.express_syntax.specs.Schemas.{Supertype, unsaid, bare, of_one, of_one_of, of_other, Entity}
-use Rattle.express_syntax.specs.Written.{joined, said, with_commas, words_of_name, words_of_names, words_of_supertype, words_of_subtype}
+use Rattle.express_syntax.specs.WrittenSchemas.{concatenated, said, with_commas, words_of_name, words_of_names, words_of_supertype, words_of_subtype}
 use Rattle.express_syntax.specs.Profile.{Maybe, IsFilled, FitsSupertype}
-use Rattle.express_syntax.specs.Predict.{Symbol, Just, Say, Running, Head, Super, SuperOf, Sub, names_symbols, next}
-use Rattle.express_syntax.specs.Predict as predict
+use Rattle.express_syntax.specs.steps.Predict.{Symbol, Just, Say, Running, Head, Super, SuperOf, Sub, names_symbols, next}
+use Rattle.express_syntax.specs.steps.Predict as predict
 use Rattle.express_syntax.proofs.Passing.{Goal, Led, step, regroup, wider, pass_mark, pass_say, pass_names}
 use Rattle.express_syntax.proofs.PassingRuns.{next_opening, pass_some, pass_end}
 
@@ -32,11 +32,11 @@ Expressed inner some = Running predict.in_parentheses 1 inner some
 more_inside : (g : Goal) (names : List (List ℕ)) (ys : List Symbol) (ws : List Word)
     → Led g (Expressed (parenthesis ∷ []) true ∷ ys) ws
     → Led g (Expressed (parenthesis ∷ []) true ∷ ys)
-    (joined (map (λ us. mark marks.Comma ∷ us) (map words_of_name names)) ++ ws)
+    (concatenated (map (λ us. mark marks.Comma ∷ us) (map words_of_name names)) ++ ws)
 more_inside g [] ys ws h = h
 more_inside g (n ∷ names) ys ws h =
     let here = Expressed (parenthesis ∷ []) true in
-    let more = joined (map (λ us. mark marks.Comma ∷ us) (map words_of_name names)) ++ ws in
+    let more = concatenated (map (λ us. mark marks.Comma ∷ us) (map words_of_name names)) ++ ws in
     step g here (here ∷ []) ys (mark marks.Comma) (name n ∷ more) refl (step g here (here ∷ []) ys (name n) more refl
     (more_inside g names ys ws h))
 
@@ -46,7 +46,7 @@ pub names_inside : (g : Goal) (names : List (List ℕ)) (ys : List Symbol) (ws :
 names_inside g [] ys ws h = h
 names_inside g (n ∷ names) ys ws h =
     let here = Expressed (parenthesis ∷ []) true in
-    let more = joined (map (λ us. mark marks.Comma ∷ us) (map words_of_name names)) ++ ws in
+    let more = concatenated (map (λ us. mark marks.Comma ∷ us) (map words_of_name names)) ++ ws in
     step g here (here ∷ []) ys (name n) more refl (more_inside g names ys ws h)
 
 -- a supertype expression up to the parenthesis that closes it

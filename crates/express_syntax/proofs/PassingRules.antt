@@ -1,16 +1,16 @@
 -- The words of rules lead to the word that ends them, and those of a rule's body to its semicolon.
 use Rattle.std.proofs.Common.{◌≡◌, ℕ, true, false, List, [], ◌∷◌, ◌++◌, Option, None, Some, Ok, refl, sym, ap, ◌∙◌, subst, append_assoc, map}
-use Rattle.express_lexis.specs.declared.marks.Mark.TheVariants as marks
+use Rattle.express_lexer.specs.declared.marks.Mark.TheVariants as marks
 use Rattle.express_syntax.specs.declared.keyword.Keyword.{Keyword}
 use Rattle.express_syntax.specs.Keywords.{keyword_text}
 use Rattle.express_syntax.specs.Words.{Word, keyword, name, mark}
 use Rattle.express_syntax.specs.Grammar.{expression}
 use Rattle.express_syntax.specs.Texts.{token}
 use Rattle.express_syntax.specs.Schemas.{Body, parsed, set_aside, Rule}
-use Rattle.express_syntax.specs.Written.{joined, words_of_body, words_of_label, words_of_rule}
+use Rattle.express_syntax.specs.WrittenSchemas.{concatenated, words_of_body, words_of_label, words_of_rule}
 use Rattle.express_syntax.specs.Profile.{FitsBody, Begins, FitsRules}
-use Rattle.express_syntax.specs.Predict.{Symbol, Just, Running, Rules, Labelled, then_rules, next}
-use Rattle.express_syntax.specs.Predict as predict
+use Rattle.express_syntax.specs.steps.Predict.{Symbol, Just, Running, Rules, Labelled, then_rules, next}
+use Rattle.express_syntax.specs.steps.Predict as predict
 use Rattle.express_syntax.proofs.Passing.{Goal, Led, step, behind_word, regroup, same_bytes, pass_mark}
 use Rattle.express_syntax.proofs.SameKeywords.{other_keyword}
 use Rattle.express_syntax.proofs.PassingRuns.{pass_some, pass_end}
@@ -89,10 +89,10 @@ labelled_rule g end (Some n) b ys ws f begins h =
 -- the rules
 pub pass_rules : (g : Goal) (end : Keyword) (rules : List Rule) (ys : List Symbol) (ws : List Word)
     → FitsRules g.levels end rules
-    → Led g (Rules end ∷ ys) ws → Led g (Rules end ∷ ys) (joined (map words_of_rule rules) ++ ws)
+    → Led g (Rules end ∷ ys) ws → Led g (Rules end ∷ ys) (concatenated (map words_of_rule rules) ++ ws)
 pass_rules g end [] ys ws f h = h
 pass_rules g end (r ∷ rules) ys ws f h =
-    let others = joined (map words_of_rule rules) in
+    let others = concatenated (map words_of_rule rules) in
     let label = words_of_label r.label in
     let body = words_of_body r.body in
     let all = Rules end ∷ ys in

@@ -1,13 +1,13 @@
 -- The words of a run of tokens lead to what ends it.
 use Rattle.std.proofs.Common.{◌≡◌, ℕ, ◌+◌, ◌<◌, Bool, true, false, List, [], ◌∷◌, ◌++◌, length, Ok, refl, arith}
 use Rattle.std.specs.Prelude.{nat_lt}
-use Rattle.express_lexis.specs.declared.marks.Mark.{Mark}
-use Rattle.express_lexis.specs.declared.marks.Mark.TheVariants as marks
+use Rattle.express_lexer.specs.declared.marks.Mark.{Mark}
+use Rattle.express_lexer.specs.declared.marks.Mark.TheVariants as marks
 use Rattle.express_syntax.specs.Words.{Word, mark}
 use Rattle.express_syntax.specs.Runs.{Bracket, parenthesis, square, brace, opening, closing, Run, ended, word, bracketed, words_of_run, inside, FitsRun, IsSome, in_rule, in_lower, in_brackets}
 use Rattle.express_syntax.specs.Texts.{token}
-use Rattle.express_syntax.specs.Predict.{Symbol, RunEnd, Running, next}
-use Rattle.express_syntax.specs.Predict as predict
+use Rattle.express_syntax.specs.steps.Predict.{Symbol, RunEnd, Running, next}
+use Rattle.express_syntax.specs.steps.Predict as predict
 use Rattle.express_syntax.proofs.Passing.{Goal, Led, step, regroup}
 
 -- what may stand in none of a run's brackets
@@ -54,7 +54,7 @@ next_inside levels part k b inner some (mark marks.CloseBrace) h = absurd cc
 next_inside levels part k b inner some (mark m) h = refl
 next_inside levels part k b inner some w h = refl
 
--- .. and outside of them but for what ends the run
+-- any other word may occur outside the brackets of a run, except the mark that ends it
 pub next_outside : (levels : ℕ) (part : RunEnd) (k : ℕ) (some : Bool) (w : Word) → inside w ≡ true
     → may_of part w ≡ true → next levels (Running part k [] some) (token w) ≡ Ok (Running part k [] true ∷ [])
 next_outside levels part k some (mark marks.Open) h g = absurd cc
@@ -104,7 +104,7 @@ pass_inner g (bracketed c i r) part k n b inner ys ws e f h =
 none_more : (n : ℕ) → n + length {A = Bracket} [] ≡ n
 none_more n = omega arith
 
--- .. and in none, where some of it has stood
+-- the words of a run that has a word already, outside its brackets
 pub pass_on : (g : Goal) (r : Run) (part : RunEnd) (n : ℕ) (ys : List Symbol) (ws : List Word)
     → FitsRun g.levels (may_of part) n r
     → Led g (Running part n [] true ∷ ys) ws → Led g (Running part n [] true ∷ ys) (words_of_run r ++ ws)
@@ -123,7 +123,7 @@ pass_on g (bracketed c i r) part n ys ws f h =
     (step g there (here ∷ []) ys (closing c) more (next_closing g.levels part n [] true c)
     (pass_on g r part n ys ws f.2 h))))
 
--- .. from its first word on
+-- the words of a run, from its first word on
 pub pass_some : (g : Goal) (r : Run) (part : RunEnd) (n : ℕ) (ys : List Symbol) (ws : List Word)
     → FitsRun g.levels (may_of part) n r → IsSome r
     → Led g (Running part n [] true ∷ ys) ws → Led g (Running part n [] false ∷ ys) (words_of_run r ++ ws)

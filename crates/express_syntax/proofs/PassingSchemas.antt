@@ -1,18 +1,18 @@
 -- The words of a schema that fits lead to nothing more.
 use Rattle.std.proofs.Common.{◌≡◌, ℕ, ◌≤◌, List, [], ◌∷◌, ◌++◌, Option, None, Some, Ok, refl, sym, subst, map}
 use Rattle.parsing.proofs.Leading.{Leads}
-use Rattle.express_lexis.specs.declared.marks.Mark.TheVariants as marks
+use Rattle.express_lexer.specs.declared.marks.Mark.TheVariants as marks
 use Rattle.express_syntax.specs.declared.keyword.Keyword.TheVariants as keywords
 use Rattle.express_syntax.specs.Words.{Word, keyword, name, mark}
 use Rattle.express_syntax.specs.Words as words
 use Rattle.express_syntax.specs.Grammar.{depth_limit}
 use Rattle.express_syntax.specs.Texts.{Lookahead, token, end_of_text, lookaheads_of}
 use Rattle.express_syntax.specs.Schemas.{Underlying, enumeration, select, data_type, TypeDeclaration, Rule, Declaration, type, entity, skipped, Schema}
-use Rattle.express_syntax.specs.Written.{joined, words_of_names, words_of_rule, words_of_clause, words_of_underlying, words_of_type, words_of_declaration, words_of_version, words_of_opening}
+use Rattle.express_syntax.specs.WrittenSchemas.{concatenated, words_of_names, words_of_rule, words_of_clause, words_of_underlying, words_of_type, words_of_declaration, words_of_version, words_of_opening}
 use Rattle.express_syntax.specs.Profile.{Maybe, FitsRules, FitsUnderlying, FitsType, FitsDeclaration, IsVersion, FitsSchema}
-use Rattle.express_syntax.specs.Predict.{Symbol, Just, Say, Id, Version, Declarations, EndOfText, semicolon, DataTypeThen, TypeEnd, Rules, names_symbols, schema_symbols, next}
-use Rattle.express_syntax.specs.Predict as predict
-use Rattle.express_syntax.specs.Steps.{IsSchema}
+use Rattle.express_syntax.specs.steps.Predict.{Symbol, Just, Say, Id, Version, Declarations, EndOfText, semicolon, DataTypeThen, TypeEnd, Rules, names_symbols, schema_symbols, next}
+use Rattle.express_syntax.specs.steps.Predict as predict
+use Rattle.express_syntax.specs.steps.Steps.{IsSchema}
 use Rattle.express_syntax.proofs.Passing.{Goal, Led, step, regroup, wider, pass_mark, pass_say, pass_id, pass_names}
 use Rattle.express_syntax.proofs.PassingRules.{pass_rules, pass_rules_end}
 use Rattle.express_syntax.proofs.PassingDataTypes.{pass_data_type}
@@ -52,7 +52,7 @@ pass_type_end g None ys ws f h = step g TypeEnd (Just marks.Semicolon ∷ []) ys
     (mark marks.Semicolon ∷ ws) refl (pass_mark g marks.Semicolon ys ws h)
 pass_type_end g (Some rules) ys ws f h =
     let last = keyword keywords.EndType ∷ mark marks.Semicolon ∷ ws in
-    step g TypeEnd (Rules keywords.EndType ∷ []) ys (keyword keywords.Where) (joined (map words_of_rule rules) ++ last)
+    step g TypeEnd (Rules keywords.EndType ∷ []) ys (keyword keywords.Where) (concatenated (map words_of_rule rules) ++ last)
     refl
     (pass_rules g keywords.EndType rules ys last f (pass_rules_end g keywords.EndType ys ws h))
 
@@ -104,7 +104,7 @@ pub pass_schema : (levels : ℕ) → depth_limit ≤ levels → (x : Schema) →
     → Leads (next levels) schema_symbols (lookaheads_of x) []
 pass_schema levels deep x f =
     let g : Goal = record { levels = levels; deep = deep; behind = end_of_text ∷ []; left = []; ends = λ e. refl } in
-    let declarations = joined (map words_of_declaration x.declarations) in
+    let declarations = concatenated (map words_of_declaration x.declarations) in
     let end = keyword keywords.EndSchema ∷ mark marks.Semicolon ∷ [] in
     let rest = Declarations ∷ EndOfText ∷ [] in
     regroup g schema_symbols (words_of_opening x) declarations end
@@ -115,7 +115,7 @@ pass_schema levels deep x f =
     ∷ []) refl
     (pass_mark g marks.Semicolon (EndOfText ∷ []) [] ([], refl, refl)))))
 
--- .. told by its lookaheads
+-- a schema and the end of the text, as lookaheads
 pub pass_language : (levels : ℕ) → depth_limit ≤ levels → (s : List Lookahead) → IsSchema levels s
     → Leads (next levels) schema_symbols s []
 pass_language levels deep s h =

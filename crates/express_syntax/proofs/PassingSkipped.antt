@@ -3,15 +3,15 @@
 use Rattle.std.proofs.Common.{◌≡◌, ℕ, suc, ◌+◌, Bool, true, false, List, [], ◌∷◌, ◌++◌, Ok, refl, sym, ap, subst, codes, inl, inr, arith}
 use Rattle.std.specs.Str.{bytes_eq}
 use Rattle.std.proofs.lemmas.Slice.Eq.{bytes_eq-Decides}
-use Rattle.express_lexis.specs.declared.marks.Mark.TheVariants as marks
+use Rattle.express_lexer.specs.declared.marks.Mark.TheVariants as marks
 use Rattle.express_syntax.specs.Words.{Word, name, mark}
 use Rattle.express_syntax.specs.Texts.{token}
 use Rattle.express_syntax.specs.Runs.{Routine, ending, further, nested, words_of_routine, BeginsRoutine, EndsRoutine, FitsRoutine}
 use Rattle.express_syntax.specs.Schemas.{Skipped, function, procedure, rule, constants, subtype_constraint}
-use Rattle.express_syntax.specs.Written.{words_of_skipped}
+use Rattle.express_syntax.specs.WrittenSchemas.{words_of_skipped}
 use Rattle.express_syntax.specs.Profile.{IsWithout, FitsSkipped}
-use Rattle.express_syntax.specs.Predict.{Symbol, Declarations, SkippedName, SkippedEnd, Until, left_routine, next}
-use Rattle.express_syntax.specs.Predict as predict
+use Rattle.express_syntax.specs.steps.Predict.{Symbol, Declarations, SkippedName, SkippedEnd, Until, left_routine, next}
+use Rattle.express_syntax.specs.steps.Predict as predict
 use Rattle.express_syntax.proofs.Passing.{Goal, Led, step, regroup, same_bytes}
 
 other_bytes : (a b : List ℕ) → (a ≡ b → ⊥) → bytes_eq a b ≡ false
@@ -75,7 +75,7 @@ pass_until g end [] ys ws f h = step g (Until end) [] ys (name end) ws (next_unt
 pass_until g end (w ∷ us) ys ws f h = step g (Until end) (Until end ∷ []) ys w (us ++ name end ∷ ws)
     (next_until_other g.levels end w f.0) (pass_until g end us ys ws f.1 h)
 
--- .. and the semicolon behind it
+-- words up to the one that ends them, and the semicolon after it
 pub until_end : (g : Goal) (end : List ℕ) (us : List Word) (ys : List Symbol) (ws : List Word) → IsWithout end us
     → Led g ys ws → Led g (Until end ∷ SkippedEnd ∷ ys) ((us ++ name end ∷ mark marks.Semicolon ∷ []) ++ ws)
 until_end g end us ys ws f h =
@@ -83,7 +83,7 @@ until_end g end us ys ws f h =
     (pass_until g end us (SkippedEnd ∷ ys) (mark marks.Semicolon ∷ ws) f (step g SkippedEnd [] ys (mark marks.Semicolon)
     ws refl h))
 
--- .. behind the name of the declaration
+-- words after the name of the declaration, up to the one that ends them, and the semicolon
 pub named_until : (g : Goal) (n end : List ℕ) (us : List Word) (ys : List Symbol) (ws : List Word) → IsWithout end us
     → Led g ys ws → Led g (SkippedName ∷ Until end ∷ SkippedEnd ∷ ys)
     (name n ∷ (us ++ name end ∷ mark marks.Semicolon ∷ []) ++ ws)

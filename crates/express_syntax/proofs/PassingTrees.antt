@@ -1,7 +1,7 @@
 -- The words of an expression stand in a run that ends at a semicolon: their brackets are closed, and no semicolon
 -- is in them.
 use Rattle.std.proofs.Common.{◌≡◌, ℕ, ◌+◌, ◌<◌, Bool, true, List, [], ◌∷◌, ◌++◌, length, Ok, refl, arith}
-use Rattle.express_lexis.specs.declared.marks.Mark.TheVariants as marks
+use Rattle.express_lexer.specs.declared.marks.Mark.TheVariants as marks
 use Rattle.express_syntax.specs.declared.keyword.Keyword.TheVariants as keywords
 use Rattle.express_syntax.specs.declared.expression.Sign.{Sign}
 use Rattle.express_syntax.specs.declared.expression.Sign.TheVariants as signs
@@ -16,11 +16,11 @@ use Rattle.express_syntax.specs.declared.expression.Function.{Function}
 use Rattle.express_syntax.specs.declared.expression.Function.TheVariants as functions
 use Rattle.express_syntax.specs.Words.{Word, keyword, name, mark}
 use Rattle.express_syntax.specs.Trees.{Number, whole, decimal, Literal, number, text, codes_of_text, bits, constant, indeterminate, Root, own, named, Tree, literal, signed, reference, parenthesized, aggregate, interval, query, call, nvl, negation, conjunction, disjunction, comparison, Trees, none, one, Alternatives, finish, another, Qualifiers, plain, attribute, group, index, word_of_number, word_of_literal, word_of_sign, word_of_relation, word_of_limit, word_of_junction, word_of_function, word_of_root, words, words_of_trees, words_of_others, words_of_alternatives, words_of_qualifiers}
-use Rattle.express_syntax.specs.Grammar.{Level, primary, unary, term, simple, expression, depth_limit, Fits, FitsEach, FitsMore, FitsQualifiers}
+use Rattle.express_syntax.specs.Grammar.{Level, primary, unary, term, simple, expression, depth_limit, FitsLevel, FitsEach, FitsMore, FitsQualifiers}
 use Rattle.express_syntax.specs.Runs.{Bracket, parenthesis, square, brace, opening, closing, inside, in_rule}
 use Rattle.express_syntax.specs.Texts.{token}
-use Rattle.express_syntax.specs.Predict.{Symbol, Running, next}
-use Rattle.express_syntax.specs.Predict as predict
+use Rattle.express_syntax.specs.steps.Predict.{Symbol, Running, next}
+use Rattle.express_syntax.specs.steps.Predict as predict
 use Rattle.express_syntax.proofs.Passing.{Goal, Led, step, regroup}
 use Rattle.express_syntax.proofs.PassingRuns.{next_opening, next_closing, next_inside, next_outside}
 
@@ -116,7 +116,7 @@ enclosed g us b inner ys ws pass h = regroup g (Within (b ∷ inner) true ∷ ys
 
 mutual
   pub pass_tree : (g : Goal) (x : Tree) (n : ℕ) (l : Level) (inner : List Bracket) (some : Bool) (ys : List Symbol)
-      (ws : List Word) → Fits n l x → length inner ≡ n
+      (ws : List Word) → FitsLevel n l x → length inner ≡ n
       → Led g (Within inner true ∷ ys) ws → Led g (Within inner some ∷ ys) (words x ++ ws)
   pass_tree g (literal v) n l inner some ys ws f e h = quiet g (word_of_literal v) inner some ys ws (quiet_literal v) h
   pass_tree g (signed s v) n l inner some ys ws f e h = quiet g (word_of_sign s) inner some ys (word_of_number v ∷ ws)

@@ -4,11 +4,11 @@ use Rattle.parsing.specs.Tables.{lookaheads}
 use Rattle.parsing.specs.Languages as languages
 use Rattle.parsing.proofs.Texts as texts
 use Rattle.parsing.proofs.Shown.{shows_join, shows_one}
-use Rattle.express_lexis.specs.Reading.{Reading, start}
+use Rattle.express_lexer.specs.Reading.{Reading, start}
 use Rattle.express_syntax.specs.Grammar.{depth_limit}
 use Rattle.express_syntax.specs.declared.fault.FaultKind.{FaultKind}
 use Rattle.express_syntax.specs.Texts.{Lookahead, LocatedToken, Shows, ShowsAll, IsViablePrefix, IsKind, IsFirstFault}
-use Rattle.express_syntax.specs.Steps.{IsSchema}
+use Rattle.express_syntax.specs.steps.Steps.{IsSchema}
 use Rattle.express_syntax.proofs.Shown.{shown_once}
 
 pub front_of : (levels : ℕ) (s : List Lookahead) → languages.IsViablePrefix (IsSchema levels) s

@@ -5,7 +5,7 @@ use Rattle.std.proofs.lemmas.Slice.Eq.{bytes_eq-Decides}
 use Rattle.parsing.specs.Languages.{AllAre}
 use Rattle.parsing.proofs.Lists.{all_append}
 use Rattle.parsing.proofs.Leading.{Leads}
-use Rattle.express_lexis.specs.declared.marks.Mark.TheVariants as marks
+use Rattle.express_lexer.specs.declared.marks.Mark.TheVariants as marks
 use Rattle.express_syntax.specs.declared.keyword.Keyword.TheVariants as keywords
 use Rattle.express_syntax.specs.Words.{Word, keyword, name, mark}
 use Rattle.express_syntax.specs.declared.fault.FaultKind.{FaultKind}
@@ -13,10 +13,10 @@ use Rattle.express_syntax.specs.declared.fault.FaultKind.TheVariants as fault_ki
 use Rattle.express_syntax.specs.Runs as runs
 use Rattle.express_syntax.specs.Runs.{words_of_routine, FitsRoutine}
 use Rattle.express_syntax.specs.Schemas.{Skipped, function, procedure, rule, constants, subtype_constraint}
-use Rattle.express_syntax.specs.Written.{words_of_skipped}
+use Rattle.express_syntax.specs.WrittenSchemas.{words_of_skipped}
 use Rattle.express_syntax.specs.Profile.{IsWithout, FitsSkipped}
 use Rattle.express_syntax.specs.Texts.{Lookahead, token, flawed, end_of_text}
-use Rattle.express_syntax.specs.Predict.{explicits, Symbol, Just, Id, Declarations, EndOfText, SkippedName, SkippedEnd, Routine, Until, Underlying, TypeEnd, Head, Body, refused, Next, opens_routine, closes_routine, left_routine, next_routine, next_until, next_skipped_name, next_skipped_end, next_end_of_text, next_declaration, skipped_symbols, next}
+use Rattle.express_syntax.specs.steps.Predict.{explicits, Symbol, Just, Id, Declarations, EndOfText, SkippedName, SkippedEnd, Routine, Until, Underlying, TypeEnd, Head, Body, refused, Next, opens_routine, closes_routine, left_routine, next_routine, next_until, next_skipped_name, next_skipped_end, next_end_of_text, next_declaration, skipped_symbols, next}
 use Rattle.express_syntax.proofs.SoundTakes.{Takes, AllTake, takes_one}
 use Rattle.express_syntax.proofs.Refusals.{IsRead, Place, in_schema, in_skipped, Told, Answer, quiet, refusal, read_answer}
 
@@ -146,7 +146,7 @@ skips levels (Routine n) h s = routine_skips levels n s
 skips levels (Until end) h s = until_skips levels end s
 skips levels y h s = absurd h
 
--- .. from their symbols
+-- what the symbols of a function or procedure take
 routine_taken : (levels : ℕ) (ws : List Word) → AllTake levels (SkippedName ∷ Routine 0 ∷ SkippedEnd ∷ []) ws
     → (n : List ℕ) × (r : runs.Routine) × FitsRoutine r
     × (ws ≡ name n ∷ (words_of_routine r ++ mark marks.Semicolon ∷ []))

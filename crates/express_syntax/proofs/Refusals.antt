@@ -3,8 +3,8 @@
 use Rattle.std.proofs.Common.{◌≡◌, ℕ, ◌+◌, ◌≤◌, ◌<◌, nat_lt, Bool, true, false, if◌then◌else◌, List, [], ◌∷◌, ◌++◌, length, Ok, Err, MatchResult, refl, sym, ap, ◌∙◌, arith}
 use Rattle.parsing.specs.Languages.{AllAre}
 use Rattle.parsing.proofs.Lists.{all_append}
-use Rattle.express_lexis.specs.declared.marks.Mark.{Mark}
-use Rattle.express_lexis.specs.declared.marks.Mark.TheVariants as marks
+use Rattle.express_lexer.specs.declared.marks.Mark.{Mark}
+use Rattle.express_lexer.specs.declared.marks.Mark.TheVariants as marks
 use Rattle.express_syntax.specs.declared.keyword.Keyword.{Keyword}
 use Rattle.express_syntax.specs.declared.keyword.Keyword.TheVariants as keywords
 use Rattle.express_syntax.specs.Words.{keyword, name, string, encoded, mark}
@@ -14,7 +14,7 @@ use Rattle.express_syntax.specs.declared.fault.LeftOut.{LeftOut}
 use Rattle.express_syntax.specs.declared.fault.LeftOut.TheVariants as left_out
 use Rattle.express_syntax.specs.Runs.{Bracket, parenthesis, square, brace}
 use Rattle.express_syntax.specs.Texts.{Lookahead, token, flawed}
-use Rattle.express_syntax.specs.Predict.{RunEnd, in_rule, in_parentheses, Ending, semicolon, ending_mark, Clause, explicits, derived, inverses, uniques, Symbol, Just, Say, Id, Names, Version, Declarations, EndOfText, SkippedName, SkippedEnd, Routine, Until, Underlying, DataTypeThen, WidthOr, FixedWidthOr, FixedOr, BoundsOrOf, OptionalOr, UniqueOr, Running, TypeEnd, Rules, Labelled, Head, Super, SuperOf, Sub, Body, AnAttribute, Explicits, OptionalDataType, Inverted, Holder, Uniques, UniqueNamed, refused, Next, same_keyword, is_mark, is_keyword, bounds_symbols, if_shallow, next_data_type, next_unique, next_optional, next_mark_or, next_fixed, ends_part, same_bracket, opened, closed, next_outside, next_mark, next_running, then_rules, next_rules, next_labelled, next_sub, next_super_of, next_super, next_head, next_attribute, follows, next_clause, next_body, next_explicits, next_optional_data_type, next_inverted, next_holder, next_uniques, next_unique_named, next_type_end, next_underlying, next_bounds, next_id, next_names, next_version, next}
+use Rattle.express_syntax.specs.steps.Predict.{RunEnd, in_rule, in_parentheses, Ending, semicolon, ending_mark, Clause, explicits, derived, inverses, uniques, Symbol, Just, Say, Id, Names, Version, Declarations, EndOfText, SkippedName, SkippedEnd, Routine, Until, Underlying, DataTypeThen, WidthOr, FixedWidthOr, FixedOr, BoundsOrOf, OptionalOr, UniqueOr, Running, TypeEnd, Rules, Labelled, Head, Super, SuperOf, Sub, Body, AnAttribute, Explicits, OptionalDataType, Inverted, Holder, Uniques, UniqueNamed, refused, Next, same_keyword, is_mark, is_keyword, bounds_symbols, if_shallow, next_data_type, next_unique, next_optional, next_mark_or, next_fixed, ends_part, same_bracket, opened, closed, next_outside, next_mark, next_running, then_rules, next_rules, next_labelled, next_sub, next_super_of, next_super, next_head, next_attribute, follows, next_clause, next_body, next_explicits, next_optional_data_type, next_inverted, next_holder, next_uniques, next_unique_named, next_type_end, next_underlying, next_bounds, next_id, next_names, next_version, next}
 use Rattle.express_syntax.proofs.SoundRuns.{is_below}
 
 -- a symbol of what is read, with no more brackets open around it than may be

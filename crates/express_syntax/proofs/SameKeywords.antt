@@ -4,7 +4,7 @@ use Rattle.std.proofs.lemmas.Slice.Eq.{bytes_eq-Decides}
 use Rattle.express_syntax.specs.declared.keyword.Keyword.{Keyword}
 use Rattle.express_syntax.specs.declared.keyword.Keyword.TheVariants as keywords
 use Rattle.express_syntax.specs.Keywords.{keyword_text, keyword_at}
-use Rattle.express_syntax.specs.Predict.{same_keyword}
+use Rattle.express_syntax.specs.steps.Predict.{same_keyword}
 
 found : (k : Keyword) → keyword_at (keyword_text k) ≡ Some k
 found keywords.Abstract = refl

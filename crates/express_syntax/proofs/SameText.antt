@@ -1,11 +1,11 @@
 -- Reading goes on in the same text.
 use Rattle.std.proofs.Common.{◌≡◌, ℕ, List, [], ◌∷◌, Result, IfOk, sym, ap, ◌∙◌, subst}
-use Rattle.express_lexis.specs.Reading.{Reading}
+use Rattle.express_lexer.specs.Reading.{Reading}
 use Rattle.express_syntax.specs.Words.{Word}
 use Rattle.express_syntax.specs.declared.fault.SyntaxFault.{SyntaxFault}
 use Rattle.express_syntax.specs.Texts.{LocatedToken, Shows, shows_token, shows_fault, shows_end, ShowsAll}
-use Rattle.express_syntax.specs.Predict.{Symbol}
-use Rattle.express_syntax.specs.Steps.{Passes}
+use Rattle.express_syntax.specs.steps.Predict.{Symbol}
+use Rattle.express_syntax.specs.steps.Steps.{Passes}
 
 pub shows_text : (old : Reading) (s : LocatedToken) (new : Reading) → Shows old s new → new.text ≡ old.text
 shows_text old s new (shows_token t h e) = h.new_text
@@ -21,7 +21,7 @@ pub passes_text : {ys zs : List Symbol} {before : List LocatedToken} {ws : List 
     → Passes ys zs before ws old new → new.text ≡ old.text
 passes_text {ys} {zs} {before} {ws} {old} {new} h = all_text old h.shown new h.shown_all
 
--- .. and so what is kept of it
+-- what holds of a text after a part is read holds of the text before
 pub kept : {A : Type 0} (P : List ℕ → A → Type 0) (x : A) {new old : List ℕ} → new ≡ old → P new x → P old x
 kept P x e h = subst (λ t. P t x) e h
 

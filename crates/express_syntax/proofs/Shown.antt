@@ -1,12 +1,12 @@
 -- A lexer shows one thing at each place of a text.
 use Rattle.std.proofs.Common.{◌≡◌, ℕ, sym, ap, ◌∙◌, Some, None, Ok, Err}
 use Rattle.parsing.proofs.Shown.{IsDetermined}
-use Rattle.express_lexis.specs.declared.token.Sort.{Sort}
-use Rattle.express_lexis.specs.declared.token.Sort.TheVariants as sorts
-use Rattle.express_lexis.specs.declared.token.Token.{Token}
-use Rattle.express_lexis.specs.declared.token.TextFault.{TextFault}
-use Rattle.express_lexis.specs.Reading.{SameSort}
-use Rattle.express_lexis.proofs.Determined.{determined}
+use Rattle.express_lexer.specs.declared.token.Sort.{Sort}
+use Rattle.express_lexer.specs.declared.token.Sort.TheVariants as sorts
+use Rattle.express_lexer.specs.declared.token.Token.{Token}
+use Rattle.express_lexer.specs.declared.token.TextFault.{TextFault}
+use Rattle.express_lexer.specs.Reading.{SameSort}
+use Rattle.express_lexer.proofs.Determined.{determined}
 use Rattle.step_literals.specs.Words.{upper}
 use Rattle.express_syntax.specs.Keywords.{keyword_at}
 use Rattle.express_syntax.specs.Words.{Word, integer, real, string, encoded, binary, mark, keyword_or_name, word_of_sort}

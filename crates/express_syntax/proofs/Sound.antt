@@ -5,18 +5,18 @@ use Rattle.std.proofs.lemmas.Slice.Eq.{bytes_eq-Decides}
 use Rattle.parsing.specs.Tables.{lookaheads, passes}
 use Rattle.parsing.proofs.Leading.{Leads, leads_apart}
 use Rattle.parsing.proofs.Running.{Reaches, passed}
-use Rattle.express_lexis.specs.declared.marks.Mark.TheVariants as marks
+use Rattle.express_lexer.specs.declared.marks.Mark.TheVariants as marks
 use Rattle.express_syntax.specs.declared.keyword.Keyword.TheVariants as keywords
 use Rattle.express_syntax.specs.Words.{Word, keyword, name, string, encoded, mark}
 use Rattle.express_syntax.specs.declared.fault.FaultKind.TheVariants as fault_kinds
 use Rattle.express_syntax.specs.Runs as runs
 use Rattle.express_syntax.specs.Runs.{words_of_routine}
 use Rattle.express_syntax.specs.Schemas.{TypeDeclaration, Entity, Skipped, function, procedure, rule, constants, subtype_constraint, Declaration, type, entity, skipped, Schema}
-use Rattle.express_syntax.specs.Written.{joined, said, words_of_clause, words_of_rule, words_of_underlying, words_of_supertype, words_of_subtype, words_of_explicit, words_of_derived, words_of_inverse, words_of_unique, words_of_skipped, words_of_declaration, words_of_version, words_of_schema}
+use Rattle.express_syntax.specs.WrittenSchemas.{concatenated, said, words_of_clause, words_of_rule, words_of_underlying, words_of_supertype, words_of_subtype, words_of_explicit, words_of_derived, words_of_inverse, words_of_unique, words_of_skipped, words_of_declaration, words_of_version, words_of_schema}
 use Rattle.express_syntax.specs.Profile.{Every, FitsSkipped, FitsDeclaration, FitsSchema}
 use Rattle.express_syntax.specs.Texts.{Lookahead, token, flawed, end_of_text, LocatedToken}
-use Rattle.express_syntax.specs.Predict.{explicits, Symbol, Just, Say, Id, Names, Version, Declarations, EndOfText, SkippedName, SkippedEnd, Routine, Until, Underlying, DataTypeThen, WidthOr, FixedWidthOr, FixedOr, BoundsOrOf, OptionalOr, UniqueOr, Running, TypeEnd, Rules, Labelled, Head, Super, SuperOf, Sub, Body, AnAttribute, Explicits, OptionalDataType, Inverted, Holder, Uniques, UniqueNamed, next, next_end_of_text, schema_symbols, run}
-use Rattle.express_syntax.specs.Steps.{IsSchema}
+use Rattle.express_syntax.specs.steps.Predict.{explicits, Symbol, Just, Say, Id, Names, Version, Declarations, EndOfText, SkippedName, SkippedEnd, Routine, Until, Underlying, DataTypeThen, WidthOr, FixedWidthOr, FixedOr, BoundsOrOf, OptionalOr, UniqueOr, Running, TypeEnd, Rules, Labelled, Head, Super, SuperOf, Sub, Body, AnAttribute, Explicits, OptionalDataType, Inverted, Holder, Uniques, UniqueNamed, next, next_end_of_text, schema_symbols, run}
+use Rattle.express_syntax.specs.steps.Steps.{IsSchema}
 use Rattle.express_syntax.proofs.SoundTakes.{Takes, AllTake, OfSuper, OfSub, BehindExplicits, BehindDerived, BehindInverses, BehindUniques, Answer, Production, takes_one, behind_mark, behind_word, behind_name, taken}
 use Rattle.express_syntax.proofs.SoundRuns.{running_production, routine_production, until_production}
 use Rattle.express_syntax.proofs.SoundDataTypes.{just_production, say_production, id_production, names_production, bounds_production, width_production, fixed_width_production, fixed_production, data_type_production, unique_production, optional_production, optional_data_type_production, underlying_production}
@@ -43,7 +43,7 @@ one_declaration levels d v ws f h e = (
   d ∷ h.0,
   (f, h.1),
   e ∙ ap (λ l. words_of_declaration d ++ l) h.2
-      ∙ sym (append_assoc (words_of_declaration d) (joined (map words_of_declaration h.0)) (keyword keywords.EndSchema
+      ∙ sym (append_assoc (words_of_declaration d) (concatenated (map words_of_declaration h.0)) (keyword keywords.EndSchema
       ∷ mark marks.Semicolon ∷ [])),
 )
 
@@ -105,7 +105,7 @@ entity_taken levels ws h =
     let end : List Word = keyword keywords.EndEntity ∷ mark marks.Semicolon ∷ [] in
     let head : List Word = said keywords.Abstract top.0 ++ words_of_supertype supers.0 ++ words_of_subtype subs.0
     ++ mark marks.Semicolon ∷ [] in
-    let words_es : List Word = joined (map words_of_explicit es.0) in
+    let words_es : List Word = concatenated (map words_of_explicit es.0) in
     let words_ds : List Word = words_of_clause keywords.Derive words_of_derived ds.0 in
     let words_is : List Word = words_of_clause keywords.Inverse words_of_inverse is.0 in
     let words_us : List Word = words_of_clause keywords.Unique words_of_unique us.0 in
@@ -207,7 +207,7 @@ constraint_taken levels ws h =
     skipped_taken levels (subtype_constraint a.0 s.0) s.1 (name (codes "SUBTYPE_CONSTRAINT") ∷ ws) s.2 s.3
     (ap (λ l. name (codes "SUBTYPE_CONSTRAINT") ∷ l) (a.3 ∙ ap (λ l. name a.0 ∷ l) s.4))
 
--- .. by the name that begins it
+-- words after one name are taken after any equal name
 named_so : (levels : ℕ) (n t : List ℕ) (ws : List Word) → bytes_eq n t ≡ true → Takes levels Declarations (name t ∷ ws)
     → Takes levels Declarations (name n ∷ ws)
 named_so levels n t ws e h = let P : List ℕ → Type 0 = λ l. Takes levels Declarations (name l ∷ ws) in
@@ -360,7 +360,7 @@ schema_taken levels ws h =
       x,
       (v.1, d.1),
       a.2 ∙ ap (λ l. keyword keywords.Schema ∷ l) (b.3 ∙ ap (λ l. name b.0 ∷ l) (k.4 ∙ (λ i. v.2 i ++ d.2 i)
-          ∙ spread_schema (words_of_version v.0) (joined (map words_of_declaration d.0)) end (mark marks.Semicolon))),
+          ∙ spread_schema (words_of_version v.0) (concatenated (map words_of_declaration d.0)) end (mark marks.Semicolon))),
     )
 
 -- what leads from the start to nothing more are the lookaheads of a schema

@@ -1,7 +1,7 @@
 -- Kinds, bounds and names: what the table lets pass of them fits.
 use Rattle.std.proofs.Common.{◌≡◌, ℕ, ◌+◌, ◌<◌, nat_lt, Bool, true, false, if◌then◌else◌, List, [], ◌∷◌, ◌++◌, Option, None, Some, Ok, Err, refl, sym, ap, ◌∙◌, subst, append_assoc}
-use Rattle.express_lexis.specs.declared.marks.Mark.{Mark}
-use Rattle.express_lexis.specs.declared.marks.Mark.TheVariants as marks
+use Rattle.express_lexer.specs.declared.marks.Mark.{Mark}
+use Rattle.express_lexer.specs.declared.marks.Mark.TheVariants as marks
 use Rattle.express_syntax.specs.declared.keyword.Keyword.{Keyword}
 use Rattle.express_syntax.specs.declared.keyword.Keyword.TheVariants as keywords
 use Rattle.express_syntax.specs.Words.{Word, keyword, name, mark}
@@ -9,10 +9,10 @@ use Rattle.express_syntax.specs.declared.fault.FaultKind.TheVariants as fault_ki
 use Rattle.express_syntax.specs.Runs as runs
 use Rattle.express_syntax.specs.Runs.{words_of_run, in_brackets}
 use Rattle.express_syntax.specs.Schemas.{Bounds, Width, DataType, integer, number, boolean, logical, real, string, binary, named, array, list, bag, set, enumeration, select, data_type}
-use Rattle.express_syntax.specs.Written.{said, words_of_names, words_of_bound, words_of_bounds, words_of_some_bounds, words_of_width, words_of_data_type}
+use Rattle.express_syntax.specs.WrittenSchemas.{said, words_of_names, words_of_bound, words_of_bounds, words_of_some_bounds, words_of_width, words_of_data_type}
 use Rattle.express_syntax.specs.Profile.{Maybe, IsFilled, FitsBounds, FitsWidth, FitsDataType}
 use Rattle.express_syntax.specs.Texts.{token}
-use Rattle.express_syntax.specs.Predict.{in_lower, in_upper, in_parentheses, Ending, ending_mark, semicolon, Symbol, Just, Say, Id, Names, Underlying, DataTypeThen, WidthOr, FixedWidthOr, FixedOr, BoundsOrOf, OptionalOr, UniqueOr, OptionalDataType, Running, Next, refused, is_mark, is_keyword, names_symbols, bounds_symbols, next_data_type, next_unique, if_shallow}
+use Rattle.express_syntax.specs.steps.Predict.{in_lower, in_upper, in_parentheses, Ending, ending_mark, semicolon, Symbol, Just, Say, Id, Names, Underlying, DataTypeThen, WidthOr, FixedWidthOr, FixedOr, BoundsOrOf, OptionalOr, UniqueOr, OptionalDataType, Running, Next, refused, is_mark, is_keyword, names_symbols, bounds_symbols, next_data_type, next_unique, if_shallow}
 use Rattle.express_syntax.proofs.Decide.{mark_is, keyword_is}
 use Rattle.express_syntax.proofs.SoundTakes.{Takes, AllTake, Held, Answer, Production, takes_one, behind_mark, behind_word, behind_name}
 use Rattle.express_syntax.proofs.SoundRuns.{is_below, bound_of, width_of}
@@ -130,7 +130,7 @@ bounds_production levels n (mark marks.OpenBracket) = shallow levels n (BoundsOr
 bounds_production levels n (keyword keywords.Of) = (tt, λ ws h. (None, tt, ap (λ l. keyword keywords.Of ∷ l) h))
 bounds_production levels n _ = tt
 
--- .. and what is behind them
+-- optional bounds and OF, and what follows them
 pub behind_bounds : (levels n : ℕ) (y : Symbol) (ws : List Word) → AllTake levels (BoundsOrOf n ∷ y ∷ []) ws
     → (b : Option Bounds) × (v : List Word) × Maybe (FitsBounds levels n) b × Takes levels y v
     × (ws ≡ words_of_some_bounds b ++ keyword keywords.Of ∷ v)

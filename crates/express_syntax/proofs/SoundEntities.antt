@@ -1,12 +1,12 @@
 -- Entities: what the table lets pass of them fits.
 use Rattle.std.proofs.Common.{◌≡◌, ℕ, true, false, List, [], ◌∷◌, ◌++◌, Option, None, Some, map, Ok, Err, refl, sym, ap, ◌∙◌, subst, append_assoc, append-nil, inl, inr}
-use Rattle.express_lexis.specs.declared.marks.Mark.TheVariants as marks
+use Rattle.express_lexer.specs.declared.marks.Mark.TheVariants as marks
 use Rattle.express_syntax.specs.declared.keyword.Keyword.TheVariants as keywords
 use Rattle.express_syntax.specs.Words.{Word, keyword, name, mark}
 use Rattle.express_syntax.specs.Schemas.{unsaid, bare, Attribute, own, redeclared, Explicit, Derived, alone, in_set, in_bag, Inverse, Unique}
-use Rattle.express_syntax.specs.Written.{joined, said, words_of_names, words_of_body, words_of_data_type, words_of_some_bounds, words_of_attribute, words_of_explicit, words_of_derived, words_of_collection, words_of_holder, words_of_inverse, words_of_unique}
+use Rattle.express_syntax.specs.WrittenSchemas.{concatenated, said, words_of_names, words_of_body, words_of_data_type, words_of_some_bounds, words_of_attribute, words_of_explicit, words_of_derived, words_of_collection, words_of_holder, words_of_inverse, words_of_unique}
 use Rattle.express_syntax.specs.Texts.{token}
-use Rattle.express_syntax.specs.Predict.{in_rule, in_parentheses, assignment, Clause, explicits, derived, inverses, uniques, Symbol, Just, Say, Id, DataTypeThen, Running, Rules, Head, Super, SuperOf, Sub, Body, AnAttribute, Explicits, OptionalDataType, Inverted, Holder, Uniques, UniqueNamed, Next, names_symbols, next_id, next_sub, next_super, next_uniques}
+use Rattle.express_syntax.specs.steps.Predict.{in_rule, in_parentheses, assignment, Clause, explicits, derived, inverses, uniques, Symbol, Just, Say, Id, DataTypeThen, Running, Rules, Head, Super, SuperOf, Sub, Body, AnAttribute, Explicits, OptionalDataType, Inverted, Holder, Uniques, UniqueNamed, Next, names_symbols, next_id, next_sub, next_super, next_uniques}
 use Rattle.express_syntax.proofs.SoundTakes.{Takes, AllTake, OfBody, BehindExplicits, BehindDerived, BehindInverses, BehindUniques, words_of_more_attributes, Answer, Production, takes_one, behind_mark, behind_word, behind_name}
 use Rattle.express_syntax.proofs.SoundRuns.{body_of, supertype_of}
 use Rattle.express_syntax.proofs.SoundDataTypes.{names_taken, behind_bounds, id_production}
@@ -211,7 +211,7 @@ skip_inverses levels ws h = (None, ws, tt, h, refl)
 skip_uniques : (levels : ℕ) (ws : List Word) → BehindUniques levels ws → BehindInverses levels ws
 skip_uniques levels ws h = (None, ws, tt, h, refl)
 
--- .. and those that do
+-- clauses that are present
 with_derived : (levels : ℕ) (ws : List Word) → OfBody levels derived ws
     → BehindExplicits levels (keyword keywords.Derive ∷ ws)
 with_derived levels ws h = (Some h.0, h.1, h.2, h.3, ap (λ l. keyword keywords.Derive ∷ l) h.4)
@@ -256,7 +256,7 @@ explicit_taken levels a ws h =
       ((tt, k.2), b.2),
       b.3,
       ap (λ l. words_of_attribute a ++ l) (h.4 ∙ (λ i. f i ++ b.4 i)) ∙ spread_explicit (words_of_attribute a)
-          (words_of_more_attributes x.0) inner (joined (map words_of_explicit b.0)) b.1 (mark marks.Colon),
+          (words_of_more_attributes x.0) inner (concatenated (map words_of_explicit b.0)) b.1 (mark marks.Colon),
     )
 
 spread_derived : (a k b j v : List Word) (c d s : Word) → a ++ c
@@ -278,7 +278,7 @@ derived_taken levels a ws h =
     let x : Derived = record { attribute = a; data_type = kind.0; body = y.0 } in
     let f : m.0 ≡ words_of_body y.0 ++ mark marks.Semicolon ∷ [] = r.3 ∙ ap (λ l. l ++ mark marks.Semicolon ∷ [])
     (sym y.2) in
-    let g : k.1 ≡ (words_of_body y.0 ++ mark marks.Semicolon ∷ []) ++ (joined (map words_of_derived b.0) ++ b.1) = m.4
+    let g : k.1 ≡ (words_of_body y.0 ++ mark marks.Semicolon ∷ []) ++ (concatenated (map words_of_derived b.0) ++ b.1) = m.4
     ∙ (λ i. f i ++ b.4 i) in (
       x ∷ b.0,
       b.1,
@@ -286,7 +286,7 @@ derived_taken levels a ws h =
       b.3,
       ap (λ l. words_of_attribute a ++ l) (c.2 ∙ ap (λ l. mark marks.Colon ∷ l) (k.4 ∙ (λ i. kind.2 i ++ g i)))
           ∙ spread_derived (words_of_attribute a) (words_of_data_type kind.0) (words_of_body y.0)
-          (joined (map words_of_derived b.0)) b.1 (mark marks.Colon) (mark marks.Assign) (mark marks.Semicolon),
+          (concatenated (map words_of_derived b.0)) b.1 (mark marks.Colon) (mark marks.Assign) (mark marks.Semicolon),
     )
 
 -- the attribute that is inverted, with its entity if it is said
@@ -312,16 +312,16 @@ inverse_taken levels a ws h =
     let b = takes_one levels (Body inverses) m.1 m.3 in
     let x : Inverse = record { attribute = a; collection = i.0; entity = i.1; holder = t.0; inverted = t.1 } in
     let inner : List Word = words_of_holder t.0 ++ name t.1 ∷ mark marks.Semicolon ∷ [] in
-    let f : o.0 ≡ inner ++ (joined (map words_of_inverse b.0) ++ b.1) = n.3 ∙ ap (λ l. name n.0 ∷ l) m.4
+    let f : o.0 ≡ inner ++ (concatenated (map words_of_inverse b.0) ++ b.1) = n.3 ∙ ap (λ l. name n.0 ∷ l) m.4
     ∙ (λ j. t.2 j ++ b.4 j) in
-    let g : k.1 ≡ keyword keywords.For ∷ (inner ++ (joined (map words_of_inverse b.0) ++ b.1)) = o.2
+    let g : k.1 ≡ keyword keywords.For ∷ (inner ++ (concatenated (map words_of_inverse b.0) ++ b.1)) = o.2
     ∙ ap (λ l. keyword keywords.For ∷ l) f in (
       x ∷ b.0,
       b.1,
       (i.2, b.2),
       b.3,
       ap (λ l. words_of_attribute a ++ l) (c.2 ∙ ap (λ l. mark marks.Colon ∷ l) (k.4 ∙ (λ j. i.3 j ++ g j)))
-          ∙ spread_inverse (words_of_attribute a) (words_of_collection i.0) inner (joined (map words_of_inverse b.0))
+          ∙ spread_inverse (words_of_attribute a) (words_of_collection i.0) inner (concatenated (map words_of_inverse b.0))
           b.1 (mark marks.Colon) (name i.1) (keyword keywords.For),
     )
 
@@ -336,7 +336,7 @@ unique_named_taken levels n ws h =
       (u.1, b.2),
       b.3,
       ap (λ l. name n ∷ l) h.4 ∙ (λ i. u.2 i ++ b.4 i)
-          ∙ sym (append_assoc (words_of_unique u.0) (joined (map words_of_unique b.0)) b.1),
+          ∙ sym (append_assoc (words_of_unique u.0) (concatenated (map words_of_unique b.0)) b.1),
     )
 
 spread_unique : (a m j v : List Word) (s : Word) → a ++ ((m ++ s ∷ []) ++ (j ++ v)) ≡ (((a ++ m) ++ s ∷ []) ++ j) ++ v
@@ -353,11 +353,11 @@ unique_taken levels a ws h =
       (tt, b.2),
       b.3,
       ap (λ l. words_of_attribute a ++ l) (h.4 ∙ (λ i. x.1 i ++ b.4 i))
-          ∙ spread_unique (words_of_attribute a) (words_of_more_attributes x.0) (joined (map words_of_unique b.0)) b.1
+          ∙ spread_unique (words_of_attribute a) (words_of_more_attributes x.0) (concatenated (map words_of_unique b.0)) b.1
           (mark marks.Semicolon),
     )
 
--- .. behind SELF
+-- an item of a clause after SELF
 redeclared_body : (levels : ℕ) (c : Clause) (ys : List Symbol) (ws : List Word)
     → ((a : Attribute) (v : List Word) → AllTake levels ys v → OfBody levels c (words_of_attribute a ++ v))
     → AllTake levels (Just marks.Backslash ∷ Id ∷ Just marks.Dot ∷ Id ∷ ys) ws

@@ -2,7 +2,7 @@
 use Rattle.std.proofs.Common.{◌≡◌, ℕ, Bool, true, false, if◌then◌else◌, List, [], ◌∷◌, ◌++◌, Option, None, Some, map, Ok, Err, refl, sym, ap, ◌∙◌, subst, append_assoc}
 use Rattle.std.proofs.lemmas.Slice.Eq.{bytes_eq-Decides}
 use Rattle.parsing.proofs.Lists.{all_append}
-use Rattle.express_lexis.specs.declared.marks.Mark.TheVariants as marks
+use Rattle.express_lexer.specs.declared.marks.Mark.TheVariants as marks
 use Rattle.express_syntax.specs.declared.keyword.Keyword.{Keyword}
 use Rattle.express_syntax.specs.declared.keyword.Keyword.TheVariants as keywords
 use Rattle.express_syntax.specs.Keywords.{keyword_text}
@@ -10,10 +10,10 @@ use Rattle.express_syntax.specs.Words.{Word, keyword, name, integer, real, strin
 use Rattle.express_syntax.specs.Runs as runs
 use Rattle.express_syntax.specs.Runs.{Run, word, words_of_run, FitsRun, IsSome}
 use Rattle.express_syntax.specs.Schemas.{Rule}
-use Rattle.express_syntax.specs.Written.{joined, words_of_label, words_of_body, words_of_rule}
+use Rattle.express_syntax.specs.WrittenSchemas.{concatenated, words_of_label, words_of_body, words_of_rule}
 use Rattle.express_syntax.specs.Profile.{Begins}
 use Rattle.express_syntax.specs.Texts.{token}
-use Rattle.express_syntax.specs.Predict.{in_rule, Just, Running, Rules, Labelled, TypeEnd, Next, same_keyword, then_rules, next_running}
+use Rattle.express_syntax.specs.steps.Predict.{in_rule, Just, Running, Rules, Labelled, TypeEnd, Next, same_keyword, then_rules, next_running}
 use Rattle.express_syntax.proofs.Decide.{keyword_is}
 use Rattle.express_syntax.proofs.SoundTakes.{AllTake, OfRun, OfRules, IsInner, Answer, Production, takes_one, take_apart}
 use Rattle.express_syntax.proofs.SoundRuns.{body_of, running_production}
@@ -32,7 +32,7 @@ one_rule levels end label r f s begins v h ws e =
       ((b.1, λ k. subst (Begins end) (sym b.2) (begins k)), h.1),
       e ∙ ap (λ l. words_of_label label ++ (l ++ mark marks.Semicolon ∷ v)) (sym b.2)
           ∙ ap (λ l. words_of_label label ++ (words_of_body b.0 ++ mark marks.Semicolon ∷ l)) h.2
-          ∙ spread_rule (words_of_label label) (words_of_body b.0) (joined (map words_of_rule h.0))
+          ∙ spread_rule (words_of_label label) (words_of_body b.0) (concatenated (map words_of_rule h.0))
           (keyword end ∷ mark marks.Semicolon ∷ []) (mark marks.Semicolon),
     )
 

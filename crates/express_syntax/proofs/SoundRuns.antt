@@ -2,8 +2,8 @@
 use Rattle.std.proofs.Common.{◌≡◌, ℕ, ◌+◌, ◌<◌, zero, suc, nat_lt, Bool, true, false, if◌then◌else◌, List, [], ◌∷◌, ◌++◌, length, codes, Ok, Err, refl, sym, ap, ◌∙◌, subst, append_assoc, arith, ◌⊎◌, inl, inr}
 use Rattle.std.specs.Str.{bytes_eq}
 use Rattle.std.proofs.lemmas.Slice.Eq.{bytes_eq-Decides}
-use Rattle.express_lexis.specs.declared.marks.Mark.{Mark}
-use Rattle.express_lexis.specs.declared.marks.Mark.TheVariants as marks
+use Rattle.express_lexer.specs.declared.marks.Mark.{Mark}
+use Rattle.express_lexer.specs.declared.marks.Mark.TheVariants as marks
 use Rattle.express_syntax.specs.Words.{Word, keyword, name, integer, real, string, encoded, binary, mark}
 use Rattle.express_syntax.specs.Trees.{Tree}
 use Rattle.express_syntax.specs.Grammar.{IsExpression, IsNone}
@@ -11,9 +11,9 @@ use Rattle.express_syntax.specs.declared.fault.FaultKind.TheVariants as fault_ki
 use Rattle.express_syntax.specs.Runs as runs
 use Rattle.express_syntax.specs.Runs.{Bracket, parenthesis, square, brace, opening, closing, Run, ended, word, bracketed, words_of_run, inside, FitsRun, IsSome, in_brackets, BeginsRoutine, EndsRoutine, words_of_routine}
 use Rattle.express_syntax.specs.Schemas.{Body, parsed, set_aside, Bound, value, unlimited, other_bound, Width, width, other_width, Supertype, of_one, of_one_of, of_other}
-use Rattle.express_syntax.specs.Written.{words_of_body, words_of_bound, words_of_width, words_of_supertype, words_of_expression}
+use Rattle.express_syntax.specs.WrittenSchemas.{words_of_body, words_of_bound, words_of_width, words_of_supertype, words_of_expression}
 use Rattle.express_syntax.specs.Profile.{FitsBody, FitsBound, FitsWidth, FitsSupertype, IsBoundText, IsSupertypeText}
-use Rattle.express_syntax.specs.Predict.{RunEnd, in_rule, in_lower, in_upper, in_parentheses, ends_part, same_bracket, opened, closed, next_outside, next_mark, opens_routine, closes_routine, left_routine, Running, Routine, Until}
+use Rattle.express_syntax.specs.steps.Predict.{RunEnd, in_rule, in_lower, in_upper, in_parentheses, ends_part, same_bracket, opened, closed, next_outside, next_mark, opens_routine, closes_routine, left_routine, Running, Routine, Until}
 use Rattle.express_syntax.proofs.Decide.{Decided, expression_decided, bound_decided, IsPlainBound, width_decided, supertype_decided}
 use Rattle.express_syntax.proofs.SoundTakes.{may_stand, end_mark, OfRun, OfRoutine, Held, Answer, Production, takes_one}
 
@@ -301,7 +301,7 @@ plain_fits levels may n (value s t) i = tt
 plain_fits levels may n unlimited i = tt
 plain_fits levels may n (other_bound r) i = absurd i
 
--- .. a bound
+-- a run is the text of a bound
 pub bound_of : (levels : ℕ) (may : Word → Bool) (n : ℕ) (r : Run) → FitsRun levels may n r → IsSome r → (b : Bound)
     × FitsBound levels may n b × (words_of_bound b ≡ words_of_run r)
 bound_of levels may n r f s = by (bound_decided (words_of_run r))
@@ -311,7 +311,7 @@ bound_of levels may n r f s = by (bound_decided (words_of_run r))
     by (inl h) = (h.0, plain_fits levels may n h.0 h.1, h.2)
     by (inr g) = (other_bound r, (f, s, g), refl)
 
--- .. a width
+-- a run is the text of a width
 pub width_of : (levels n : ℕ) (r : Run) → n < levels → FitsRun levels in_brackets (n + 1) r → IsSome r → (w : Width)
     × FitsWidth levels n w × (words_of_width w ≡ mark marks.Open ∷ (words_of_run r ++ mark marks.Close ∷ []))
 width_of levels n r d f s = by (width_decided (words_of_run r))
@@ -322,7 +322,7 @@ width_of levels n r d f s = by (width_decided (words_of_run r))
     by (inl h) = (width h.0, d, ap (λ l. mark marks.Open ∷ (l ++ mark marks.Close ∷ [])) (sym h.1))
     by (inr g) = (other_width r, (d, f, s, g), refl)
 
--- .. a supertype expression
+-- a run is the text of a supertype expression
 pub supertype_of : (levels : ℕ) (r : Run) → FitsRun levels in_brackets 1 r → IsSome r → (s : Supertype)
     × FitsSupertype levels s × (words_of_supertype s ≡ words_of_expression (words_of_run r))
 supertype_of levels r f s = by (supertype_decided (words_of_run r))

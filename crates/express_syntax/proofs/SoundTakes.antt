@@ -3,18 +3,18 @@ use Rattle.std.proofs.Common.{◌≡◌, ℕ, ◌+◌, zero, suc, Bool, true, fa
 use Rattle.parsing.specs.Languages.{AllAre}
 use Rattle.parsing.proofs.Lists.{all_append}
 use Rattle.parsing.proofs.Leading.{Leads}
-use Rattle.express_lexis.specs.declared.marks.Mark.{Mark}
-use Rattle.express_lexis.specs.declared.marks.Mark.TheVariants as marks
+use Rattle.express_lexer.specs.declared.marks.Mark.{Mark}
+use Rattle.express_lexer.specs.declared.marks.Mark.TheVariants as marks
 use Rattle.express_syntax.specs.declared.keyword.Keyword.{Keyword}
 use Rattle.express_syntax.specs.declared.keyword.Keyword.TheVariants as keywords
 use Rattle.express_syntax.specs.Words.{Word, keyword, name, mark}
 use Rattle.express_syntax.specs.Runs as runs
 use Rattle.express_syntax.specs.Runs.{Bracket, closing, Run, words_of_run, inside, FitsRun, IsSome, in_brackets, words_of_routine, FitsRoutine}
 use Rattle.express_syntax.specs.Schemas.{Rule, Bounds, Width, DataType, Underlying, Supertype, Attribute, Explicit, Derived, Collection, Inverse, Unique, Declaration}
-use Rattle.express_syntax.specs.Written.{joined, said, words_of_clause, words_of_rule, words_of_some_bounds, words_of_some_width, words_of_fixed, words_of_data_type, words_of_underlying, words_of_supertype, words_of_subtype, words_of_attribute, words_of_explicit, words_of_derived, words_of_collection, words_of_inverse, words_of_unique, words_of_declaration, words_of_version}
+use Rattle.express_syntax.specs.WrittenSchemas.{concatenated, said, words_of_clause, words_of_rule, words_of_some_bounds, words_of_some_width, words_of_fixed, words_of_data_type, words_of_underlying, words_of_supertype, words_of_subtype, words_of_attribute, words_of_explicit, words_of_derived, words_of_collection, words_of_inverse, words_of_unique, words_of_declaration, words_of_version}
 use Rattle.express_syntax.specs.Profile.{Every, Maybe, IsFilled, FitsRules, FitsBounds, FitsWidth, FitsDataType, FitsUnderlying, FitsSupertype, FitsCollection, FitsExplicit, FitsDerived, FitsInverse, FitsUnique, IsWithout, FitsDeclaration, IsVersion}
 use Rattle.express_syntax.specs.Texts.{Lookahead, token, flawed, end_of_text}
-use Rattle.express_syntax.specs.Predict.{RunEnd, in_rule, in_lower, in_upper, in_parentheses, ending_mark, Clause, explicits, derived, inverses, uniques, Symbol, Just, Say, Id, Names, Version, Declarations, EndOfText, SkippedName, SkippedEnd, Routine, Until, Underlying as UnderlyingDataType, DataTypeThen, WidthOr, FixedWidthOr, FixedOr, BoundsOrOf, OptionalOr, UniqueOr, Running, TypeEnd, Rules, Labelled, Head, Super, SuperOf, Sub, Body, AnAttribute, Explicits, OptionalDataType, Inverted, Holder, Uniques, UniqueNamed, Next, next}
+use Rattle.express_syntax.specs.steps.Predict.{RunEnd, in_rule, in_lower, in_upper, in_parentheses, ending_mark, Clause, explicits, derived, inverses, uniques, Symbol, Just, Say, Id, Names, Version, Declarations, EndOfText, SkippedName, SkippedEnd, Routine, Until, Underlying as UnderlyingDataType, DataTypeThen, WidthOr, FixedWidthOr, FixedOr, BoundsOrOf, OptionalOr, UniqueOr, Running, TypeEnd, Rules, Labelled, Head, Super, SuperOf, Sub, Body, AnAttribute, Explicits, OptionalDataType, Inverted, Holder, Uniques, UniqueNamed, Next, next}
 use Rattle.express_syntax.proofs.Decide.{words_of_more_names}
 
 -- what may stand in a run where none of its brackets is open
@@ -45,7 +45,7 @@ OfRoutine (suc n) ws = (r : runs.Routine) × (v : List Word) × FitsRoutine r ×
     × OfRoutine n v
 
 abbrev pub OfRules : ℕ → Keyword → List Word → Type 0
-OfRules levels end ws = (rs : List Rule) × FitsRules levels end rs × (ws ≡ joined (map words_of_rule rs) ++ keyword end
+OfRules levels end ws = (rs : List Rule) × FitsRules levels end rs × (ws ≡ concatenated (map words_of_rule rs) ++ keyword end
     ∷ mark marks.Semicolon ∷ [])
 
 -- the rest of an entity, behind each of its clauses
@@ -65,20 +65,20 @@ abbrev pub BehindExplicits : ℕ → List Word → Type 0
 BehindExplicits levels ws = (ds : Option (List Derived)) × (v : List Word) × Maybe (Every (FitsDerived levels)) ds
     × BehindDerived levels v × (ws ≡ words_of_clause keywords.Derive words_of_derived ds ++ v)
 
--- .. from this clause on
+-- the rest of an entity, from this clause on
 abbrev pub OfBody : ℕ → Clause → List Word → Type 0
 OfBody levels explicits ws = (es : List Explicit) × (v : List Word) × Every (FitsExplicit levels) es
-    × BehindExplicits levels v × (ws ≡ joined (map words_of_explicit es) ++ v)
+    × BehindExplicits levels v × (ws ≡ concatenated (map words_of_explicit es) ++ v)
 OfBody levels derived ws = (ds : List Derived) × (v : List Word) × Every (FitsDerived levels) ds
-    × BehindDerived levels v × (ws ≡ joined (map words_of_derived ds) ++ v)
+    × BehindDerived levels v × (ws ≡ concatenated (map words_of_derived ds) ++ v)
 OfBody levels inverses ws = (is : List Inverse) × (v : List Word) × Every (FitsInverse levels) is
-    × BehindInverses levels v × (ws ≡ joined (map words_of_inverse is) ++ v)
+    × BehindInverses levels v × (ws ≡ concatenated (map words_of_inverse is) ++ v)
 OfBody levels uniques ws = (us : List Unique) × (v : List Word) × Every FitsUnique us × BehindUniques levels v
-    × (ws ≡ joined (map words_of_unique us) ++ v)
+    × (ws ≡ concatenated (map words_of_unique us) ++ v)
 
 -- attributes with a comma before each
 abbrev pub words_of_more_attributes : List Attribute → List Word
-words_of_more_attributes xs = joined (map (λ us. mark marks.Comma ∷ us) (map words_of_attribute xs))
+words_of_more_attributes xs = concatenated (map (λ us. mark marks.Comma ∷ us) (map words_of_attribute xs))
 
 abbrev pub OfSub : List Word → Type 0
 OfSub ws = (t : Option (List (List ℕ))) × Maybe IsFilled t × (ws ≡ words_of_subtype t ++ mark marks.Semicolon ∷ [])
@@ -99,7 +99,7 @@ Takes levels Id ws = (n : List ℕ) × (ws ≡ name n ∷ [])
 Takes levels Names ws = (ns : List (List ℕ)) × (ws ≡ words_of_more_names ns ++ mark marks.Close ∷ [])
 Takes levels Version ws = (v : Option Word) × Maybe IsVersion v × (ws ≡ words_of_version v ++ mark marks.Semicolon ∷ [])
 Takes levels Declarations ws = (ds : List Declaration) × Every (FitsDeclaration levels) ds
-    × (ws ≡ joined (map words_of_declaration ds) ++ keyword keywords.EndSchema ∷ mark marks.Semicolon ∷ [])
+    × (ws ≡ concatenated (map words_of_declaration ds) ++ keyword keywords.EndSchema ∷ mark marks.Semicolon ∷ [])
 Takes levels EndOfText ws = ⊥
 Takes levels SkippedName ws = (n : List ℕ) × (ws ≡ name n ∷ [])
 Takes levels SkippedEnd ws = ws ≡ mark marks.Semicolon ∷ []
@@ -141,7 +141,7 @@ Takes levels Holder ws = (ws ≡ mark marks.Semicolon ∷ [])
 Takes levels Uniques ws = (xs : List Attribute) × (ws ≡ words_of_more_attributes xs ++ mark marks.Semicolon ∷ [])
 Takes levels UniqueNamed ws = (n : List ℕ) → (u : Unique) × FitsUnique u × (name n ∷ ws ≡ words_of_unique u)
 
--- .. one after another
+-- the words that symbols take, one after another
 abbrev pub AllTake : ℕ → List Symbol → List Word → Type 0
 AllTake levels [] ws = ws ≡ []
 AllTake levels (y ∷ ys) ws = (u : List Word) × (v : List Word) × Takes levels y u × AllTake levels ys v × (ws ≡ u ++ v)

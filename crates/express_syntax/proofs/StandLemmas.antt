@@ -1,18 +1,18 @@
 -- What was read stands in the text.
 use Rattle.std.proofs.Common.{◌≡◌, ℕ, ◌+◌, ◌≤◌, Bool, List, [], ◌∷◌, ◌++◌, length, map, ◌⊎◌, inl, inr, if◌then◌else◌, refl, sym, ap, subst, arith, length-drop}
 use Rattle.parsing.specs.Tables.{lookaheads}
-use Rattle.express_lexis.specs.declared.token.Token.{Token}
-use Rattle.express_lexis.specs.Reading.{Reading, Takes}
+use Rattle.express_lexer.specs.declared.token.Token.{Token}
+use Rattle.express_lexer.specs.Reading.{Reading, Takes}
 use Rattle.express_syntax.specs.Words.{Word}
 use Rattle.express_syntax.specs.Texts.{Lookahead, token, LocatedToken, Shows, ShowsAll}
-use Rattle.express_syntax.specs.Steps.{Reads}
+use Rattle.express_syntax.specs.steps.Steps.{Reads}
 use Rattle.express_syntax.specs.declared.passage.Passage.{Passage}
 use Rattle.express_syntax.specs.declared.passage.Run as kept
 use Rattle.express_syntax.specs.declared.passage.Routine as kept_routine
 use Rattle.express_syntax.specs.Runs.{Run, ended, word, bracketed, words_of_run, inside, FitsRun, Routine, words_of_routine, FitsRoutine}
 use Rattle.express_syntax.specs.Runs.{has_some}
 use Rattle.express_syntax.specs.Passages.{StandsBehind, Stands, at_place, IsRun}
-use Rattle.express_syntax.specs.PassageLemmas.{stands_within, words_prop, run_prop, routine_prop}
+use Rattle.express_syntax.specs.steps.PassageLemmas.{stands_within, words_prop, run_prop, routine_prop}
 use Rattle.express_syntax.proofs.Looking.{shown_token, reads_shown}
 
 -- a token ends within the text

@@ -1,7 +1,7 @@
 -- What stands at the front of words, part by part: the first word decides which tree it is, and each part of it
 -- stands at the words that the part before it left.
 use Rattle.std.proofs.Common.{◌≡◌, ℕ, ◌+◌, ◌<◌, List, ◌∷◌, ◌++◌}
-use Rattle.express_lexis.specs.declared.marks.Mark.TheVariants as marks
+use Rattle.express_lexer.specs.declared.marks.Mark.TheVariants as marks
 use Rattle.express_syntax.specs.declared.keyword.Keyword.TheVariants as keywords
 use Rattle.express_syntax.specs.declared.expression.Sign.{Sign}
 use Rattle.express_syntax.specs.declared.expression.Sign.TheVariants as signs
@@ -11,7 +11,7 @@ use Rattle.express_syntax.specs.declared.expression.Function.TheVariants as func
 use Rattle.express_syntax.specs.Words.{Word, keyword, name, integer, real, string, encoded, binary, mark}
 use Rattle.express_syntax.specs.Trees.{whole, decimal, Literal, number, text, codes_of_text, bits, constant, indeterminate, Root, own, named, Tree, conjunction, disjunction, Trees, none, one, Alternatives, finish, another, words_of_others}
 use Rattle.express_syntax.specs.Grammar.{simple, expression, FitsEach}
-use Rattle.express_syntax.specs.Reads.{Stops, Stands}
+use Rattle.express_syntax.specs.steps.Reads.{Stops, Stands}
 
 -- what a word begins
 pub data First : Type 0 where

@@ -1,6 +1,6 @@
 -- What ends a tree at a level.
 use Rattle.std.proofs.Common.{◌≡◌, ◌≤◌, false, List, [], ◌∷◌, ◌++◌, None, refl, arith}
-use Rattle.express_lexis.specs.declared.marks.Mark.TheVariants as marks
+use Rattle.express_lexer.specs.declared.marks.Mark.TheVariants as marks
 use Rattle.express_syntax.specs.declared.keyword.Keyword.TheVariants as keywords
 use Rattle.express_syntax.specs.declared.expression.Relation.{Relation}
 use Rattle.express_syntax.specs.declared.expression.Relation.TheVariants as relations
@@ -10,8 +10,8 @@ use Rattle.express_syntax.specs.declared.expression.Junction.{Junction}
 use Rattle.express_syntax.specs.declared.expression.Junction.TheVariants as junctions
 use Rattle.express_syntax.specs.Words.{Word, keyword, mark}
 use Rattle.express_syntax.specs.Trees.{Trees, none, one, Alternatives, finish, another, word_of_relation, word_of_limit, word_of_junction, words_of_others, words_of_alternatives}
-use Rattle.express_syntax.specs.Grammar.{Level, primary, unary, term, simple, expression, rank}
-use Rattle.express_syntax.specs.Reads.{goes_on, Stops}
+use Rattle.express_syntax.specs.Grammar.{Level, primary, unary, term, simple, expression, level_rank}
+use Rattle.express_syntax.specs.steps.Reads.{goes_on, Stops}
 use Rattle.express_syntax.proofs.Parser.{relation_of, junction_of}
 
 -- what ends a level ends those below it
@@ -77,21 +77,21 @@ stops_any term r s = stops_primary r (stops_unary r s)
 stops_any simple r s = stops_primary r (stops_unary r (stops_term r s))
 stops_any expression r s = stops_primary r (stops_unary r (stops_term r (stops_simple r s)))
 
-pub stops_to_term : (l : Level) (r : List Word) → rank term ≤ rank l → Stops l r → Stops term r
+pub stops_to_term : (l : Level) (r : List Word) → level_rank term ≤ level_rank l → Stops l r → Stops term r
 stops_to_term primary r k s = absurd (omega arith)
 stops_to_term unary r k s = absurd (omega arith)
 stops_to_term term r k s = s
 stops_to_term simple r k s = stops_term r s
 stops_to_term expression r k s = stops_term r (stops_simple r s)
 
-pub stops_to_simple : (l : Level) (r : List Word) → rank simple ≤ rank l → Stops l r → Stops simple r
+pub stops_to_simple : (l : Level) (r : List Word) → level_rank simple ≤ level_rank l → Stops l r → Stops simple r
 stops_to_simple primary r k s = absurd (omega arith)
 stops_to_simple unary r k s = absurd (omega arith)
 stops_to_simple term r k s = absurd (omega arith)
 stops_to_simple simple r k s = s
 stops_to_simple expression r k s = stops_simple r s
 
-pub stops_to_expression : (l : Level) (r : List Word) → rank expression ≤ rank l → Stops l r → Stops expression r
+pub stops_to_expression : (l : Level) (r : List Word) → level_rank expression ≤ level_rank l → Stops l r → Stops expression r
 stops_to_expression primary r k s = absurd (omega arith)
 stops_to_expression unary r k s = absurd (omega arith)
 stops_to_expression term r k s = absurd (omega arith)

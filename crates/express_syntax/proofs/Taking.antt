@@ -4,14 +4,14 @@ use Rattle.parsing.specs.Tables.{lookaheads, step_on}
 use Rattle.parsing.proofs.Running.{run_ok}
 use Rattle.parsing.proofs.Shown as shown
 use Rattle.parsing.proofs.Turning as turning
-use Rattle.express_lexis.specs.Reading.{Reading}
+use Rattle.express_lexer.specs.Reading.{Reading}
 use Rattle.express_syntax.specs.Words.{Word}
 use Rattle.express_syntax.specs.Grammar.{depth_limit}
 use Rattle.express_syntax.specs.declared.fault.SyntaxFault.{SyntaxFault}
 use Rattle.express_syntax.specs.declared.fault.SyntaxFault.TheVariants as faults
 use Rattle.express_syntax.specs.Texts.{token, LocatedToken, Shows}
-use Rattle.express_syntax.specs.Predict.{Symbol, next, refused, run}
-use Rattle.express_syntax.specs.Steps.{table, Turns, fault_at, StopsIn, Passes}
+use Rattle.express_syntax.specs.steps.Predict.{Symbol, next, refused, run}
+use Rattle.express_syntax.specs.steps.Steps.{table, Turns, fault_at, StopsIn, Passes}
 
 lookaheads_append : (s u : List LocatedToken) → lookaheads (s ++ u) ≡ lookaheads s ++ lookaheads u
 lookaheads_append [] u = refl
@@ -73,7 +73,7 @@ passes_token y zs w s old new h e n = record {
   turned = λ more q. run_ok table y zs more s q (ap (next depth_limit y) e ∙ n);
 }
 
--- .. that is taken already
+-- a token that is taken already passes
 pub passes_taken : (y : Symbol) (zs : List Symbol) (w : Word) (s : LocatedToken) (here : Reading)
     → s.lookahead ≡ token w → next depth_limit y (token w) ≡ Ok zs → Passes (y ∷ []) zs (s ∷ []) (w ∷ []) here here
 passes_taken y zs w s here e n = record {
@@ -107,7 +107,7 @@ pub stops_behind_taken : {ys : List Symbol} {before : List LocatedToken} {ws : L
 stops_behind_taken {ys} {before} {ws} {old} {mid} {new} e zs xs s h shows g = turning.stops_via_taken table Shows
     (fault_at e) ys zs xs before s old mid new (turns_of h) shows g
 
--- .. where nothing comes before it
+-- a fault with the first token taken is a fault with no token taken
 pub stops_first : {old new : Reading} (e : SyntaxFault) (ys : List Symbol) (s : LocatedToken) → Shows old s new
     → StopsIn e ys (s ∷ []) new → StopsIn e ys [] old
 stops_first {old} {new} e ys s shows g = turning.stops_via_taken table Shows (fault_at e) ys ys [] [] s old old new
@@ -123,7 +123,7 @@ pub stops_all : (e : SyntaxFault) (ys xs : List Symbol) (before : List LocatedTo
     → StopsIn e ys before old → StopsIn e (ys ++ xs) before old
 stops_all e ys xs before old h = turning.stops_more table Shows (fault_at e) ys xs before old h
 
--- .. where some of it passes, and this is to come next
+-- a fault in a further symbol, after what passes, is a fault of all
 pub stops_next : {ys : List Symbol} {before : List LocatedToken} {ws : List Word} {old mid : Reading} (e : SyntaxFault)
     (zs xs : List Symbol) → Passes ys [] before ws old mid → StopsIn e zs [] mid → StopsIn e (ys ++ (zs ++ xs)) before
     old
@@ -147,7 +147,7 @@ passes_other y z s same h = record {
   turned = λ more q. ap (λ r. step_on s.place (λ zs. run depth_limit zs (h.shown ++ q)) more r) same ∙ h.turned more q;
 }
 
--- .. and stops where the other does
+-- a symbol that takes what another takes after a token fails where the other fails
 pub stops_as : (e : SyntaxFault) (y z : Symbol) (s : LocatedToken) (old : Reading)
     → next depth_limit y s.lookahead ≡ next depth_limit z s.lookahead → StopsIn e (z ∷ []) (s ∷ []) old
     → StopsIn e (y ∷ []) (s ∷ []) old

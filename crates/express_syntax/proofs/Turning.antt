@@ -5,16 +5,16 @@ use Rattle.parsing.proofs.Running.{Reaches}
 use Rattle.parsing.proofs.Turning as turning
 use Rattle.parsing.proofs.Turning.{Pass}
 use Rattle.parsing.proofs.Shown as shown
-use Rattle.express_lexis.specs.declared.token.Token.{Token}
-use Rattle.express_lexis.specs.Reading.{Reading, Takes}
+use Rattle.express_lexer.specs.declared.token.Token.{Token}
+use Rattle.express_lexer.specs.Reading.{Reading, Takes}
 use Rattle.express_syntax.specs.Words.{Word, word_of_sort}
 use Rattle.express_syntax.specs.Grammar.{depth_limit}
 use Rattle.express_syntax.specs.declared.fault.FaultKind.{FaultKind}
 use Rattle.express_syntax.specs.declared.fault.SyntaxFault.{SyntaxFault}
 use Rattle.express_syntax.specs.declared.fault.SyntaxFault.TheVariants as faults
 use Rattle.express_syntax.specs.Texts.{token, LocatedToken, located, Shows, shows_token, ShowsAll}
-use Rattle.express_syntax.specs.Predict.{Symbol, next}
-use Rattle.express_syntax.specs.Steps.{table, Reads, Turns, fault_at, StopsIn}
+use Rattle.express_syntax.specs.steps.Predict.{Symbol, next}
+use Rattle.express_syntax.specs.steps.Steps.{table, Reads, Turns, fault_at, StopsIn}
 
 -- nothing is read
 pub turns_here : (ys : List Symbol) (r : Reading) → Turns ys ys [] r r
@@ -30,7 +30,7 @@ pub turns_token : (y : Symbol) (zs ys : List Symbol) (t : Token) (old new : Read
     → next depth_limit y (located t).lookahead ≡ Ok zs → Turns (y ∷ ys) (zs ++ ys) [] old new
 turns_token y zs ys t old new h e = turning.turns_token table Shows y zs ys (located t) old new (shows_token t h refl) e
 
--- .. that is taken already
+-- a token that is allowed and taken already
 pub turns_taken : (y : Symbol) (zs ys : List Symbol) (t : Token) (r : Reading)
     → next depth_limit y (located t).lookahead ≡ Ok zs → Turns (y ∷ ys) (zs ++ ys) (located t ∷ []) r r
 turns_taken y zs ys t r e = turning.turns_taken table Shows y zs ys (located t) r e
@@ -55,7 +55,7 @@ pub turns_reads : (ys : List Symbol) (ws : List Word) (old new : Reading) → Pa
     → Reads old ws new → Turns ys [] [] old new
 turns_reads ys ws old new pass h = turning.turns_reads table Shows ys (map token ws) old new pass h
 
--- .. also where the first of them is taken already
+-- words that pass, where the first of them is taken already
 pub turns_reads_first : (ys : List Symbol) (ws : List Word) (t : Token) (old new : Reading)
     → Pass table ys (map token ws) → (s : List LocatedToken) → ShowsAll old s new → lookaheads (located t ∷ s) ≡ map
     token ws → Turns ys [] (located t ∷ []) old new
@@ -79,7 +79,7 @@ pub stops_token : (k : FaultKind) (y : Symbol) (t : Token) (old new : Reading) �
     → next depth_limit y (located t).lookahead ≡ Err k → StopsIn (faults.Fault k t.place) (y ∷ []) [] old
 stops_token k y t old new h e = turning.stops_token table Shows k y (located t) old new (shows_token t h refl) e
 
--- .. that is taken already
+-- a token that isn't allowed and is taken already
 pub stops_taken : (k : FaultKind) (y : Symbol) (t : Token) (r : Reading)
     → next depth_limit y (located t).lookahead ≡ Err k → StopsIn (faults.Fault k t.place) (y ∷ []) (located t ∷ []) r
 stops_taken k y t r e = turning.stops_taken table Shows k y (located t) r e

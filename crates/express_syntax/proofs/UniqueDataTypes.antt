@@ -1,6 +1,6 @@
 -- Kinds, the types under defined types and the collections of inverse attributes are told by their words.
 use Rattle.std.proofs.Common.{◌≡◌, ℕ, ◌+◌, Bool, true, false, List, [], ◌∷◌, ◌++◌, Option, None, Some, refl, sym, ap, ◌∙◌, subst, append_assoc}
-use Rattle.express_lexis.specs.declared.marks.Mark.TheVariants as marks
+use Rattle.express_lexer.specs.declared.marks.Mark.TheVariants as marks
 use Rattle.express_syntax.specs.declared.keyword.Keyword.TheVariants as keywords
 use Rattle.express_syntax.specs.Words.{Word, keyword, name, mark}
 use Rattle.express_syntax.specs.Words as words
@@ -8,9 +8,9 @@ use Rattle.express_syntax.specs.Grammar.{depth_limit}
 use Rattle.express_syntax.specs.Runs.{words_of_run}
 use Rattle.express_syntax.specs.Schemas as schemas
 use Rattle.express_syntax.specs.Schemas.{Bounds, Width, DataType, integer, number, boolean, logical, real, string, binary, named, array, list, bag, set, Underlying, enumeration, select, data_type, Collection, alone, in_set, in_bag}
-use Rattle.express_syntax.specs.Written.{said, words_of_bounds, words_of_some_bounds, words_of_width, words_of_some_width, words_of_fixed, words_of_data_type, words_of_underlying, words_of_collection}
+use Rattle.express_syntax.specs.WrittenSchemas.{said, words_of_bounds, words_of_some_bounds, words_of_width, words_of_some_width, words_of_fixed, words_of_data_type, words_of_underlying, words_of_collection}
 use Rattle.express_syntax.specs.Profile.{Maybe, FitsBounds, FitsWidth, FitsDataType, FitsUnderlying, FitsCollection}
-use Rattle.express_syntax.specs.Predict.{Ending, ending_mark, semicolon, assignment}
+use Rattle.express_syntax.specs.steps.Predict.{Ending, ending_mark, semicolon, assignment}
 use Rattle.express_syntax.proofs.Apart.{tail_is, regrouped, Headed, said_once}
 use Rattle.express_syntax.proofs.UniqueRuns.{bounds_once, width_once, names_once}
 
@@ -103,7 +103,7 @@ pub optional_once : (o p : Bool) (k l : DataType) (u v : List Word) → said key
 optional_once o p k l u v e = said_once keywords.Optional o p (words_of_data_type k ++ u) (words_of_data_type l ++ v)
     (λ h. subst IsDataTypeFirst h.1 (kind_first k u)) (λ h. subst IsDataTypeFirst h.1 (kind_first l v)) e
 
--- .. and no OPTIONAL
+-- no OPTIONAL begins UNIQUE and a data type
 not_optional : (o : Bool) (k : DataType) (u : List Word) → Headed keywords.Optional (said keywords.Unique o
     ++ (words_of_data_type k ++ u)) → ⊥
 not_optional true k u h = let first = h.1 in cc

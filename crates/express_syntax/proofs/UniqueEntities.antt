@@ -1,15 +1,15 @@
 -- Attributes, the rules of clauses and entities are told by their words.
 use Rattle.std.proofs.Common.{◌≡◌, ℕ, ◌+◌, ◌≤◌, List, [], ◌∷◌, ◌++◌, Option, None, Some, map, refl, sym, ap, ◌∙◌, subst, append_assoc, arith}
-use Rattle.express_lexis.specs.declared.marks.Mark.{Mark}
-use Rattle.express_lexis.specs.declared.marks.Mark.TheVariants as marks
+use Rattle.express_lexer.specs.declared.marks.Mark.{Mark}
+use Rattle.express_lexer.specs.declared.marks.Mark.TheVariants as marks
 use Rattle.express_syntax.specs.declared.keyword.Keyword.{Keyword}
 use Rattle.express_syntax.specs.declared.keyword.Keyword.TheVariants as keywords
 use Rattle.express_syntax.specs.Words.{Word, keyword, name, mark}
 use Rattle.express_syntax.specs.Grammar.{depth_limit}
 use Rattle.express_syntax.specs.Schemas.{Body, Rule, Supertype, unsaid, bare, of_one, of_one_of, of_other, Attribute, own, redeclared, Explicit, Derived, Inverse, Unique, Entity}
-use Rattle.express_syntax.specs.Written.{joined, said, with_commas, words_of_body, words_of_label, words_of_rule, words_of_clause, words_of_data_type, words_of_supertype, words_of_subtype, words_of_attribute, words_of_explicit, words_of_derived, words_of_collection, words_of_holder, words_of_inverse, words_of_unique, words_of_head, words_of_entity}
+use Rattle.express_syntax.specs.WrittenSchemas.{concatenated, said, with_commas, words_of_body, words_of_label, words_of_rule, words_of_clause, words_of_data_type, words_of_supertype, words_of_subtype, words_of_attribute, words_of_explicit, words_of_derived, words_of_collection, words_of_holder, words_of_inverse, words_of_unique, words_of_head, words_of_entity}
 use Rattle.express_syntax.specs.Profile.{Maybe, IsFilled, FitsBody, Begins, BeginsRule, FitsRules, FitsExplicit, FitsDerived, FitsInverse, FitsUnique, FitsEntity}
-use Rattle.express_syntax.specs.Predict.{semicolon, assignment}
+use Rattle.express_syntax.specs.steps.Predict.{semicolon, assignment}
 use Rattle.express_syntax.proofs.Apart.{tail_is, same_name, regrouped, Headed, said_once, each_once, clause_once}
 use Rattle.express_syntax.proofs.UniqueRuns.{body_once, names_once, supertype_once, IsBehind}
 use Rattle.express_syntax.proofs.UniqueDataTypes.{kind_once, optional_once, collection_once}
@@ -97,7 +97,7 @@ attribute_once (redeclared c n) (redeclared d m) u v e =
     ((λ i. redeclared (first i) (second i)), tail_is attribute)
 
 abbrev others : List Attribute → List Word
-others xs = joined (map (λ us. mark marks.Comma ∷ us) (map words_of_attribute xs))
+others xs = concatenated (map (λ us. mark marks.Comma ∷ us) (map words_of_attribute xs))
 
 others_once : (m : Mark) → (m ≡ marks.Comma → ⊥) → (xs ys : List Attribute) (u v : List Word) → others xs ++ mark m
     ∷ u ≡ others ys ++ mark m ∷ v → (xs ≡ ys) × (u ≡ v)
@@ -329,12 +329,12 @@ abbrev from_derived : Entity → List Word → List Word
 from_derived e u = words_of_clause keywords.Derive words_of_derived e.derived ++ from_inverses e u
 
 abbrev from_explicits : Entity → List Word → List Word
-from_explicits e u = joined (map words_of_explicit e.explicits) ++ from_derived e u
+from_explicits e u = concatenated (map words_of_explicit e.explicits) ++ from_derived e u
 
 entity_text : (e : Entity) (u : List Word) → words_of_entity e ++ u ≡ words_of_head e ++ from_explicits e u
 entity_text e u =
     let head = words_of_head e in
-    let explicit = joined (map words_of_explicit e.explicits) in
+    let explicit = concatenated (map words_of_explicit e.explicits) in
     let derive = words_of_clause keywords.Derive words_of_derived e.derived in
     let inverse = words_of_clause keywords.Inverse words_of_inverse e.inverses in
     let unique = words_of_clause keywords.Unique words_of_unique e.uniques in

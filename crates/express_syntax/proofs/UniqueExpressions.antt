@@ -1,11 +1,11 @@
 -- Words are those of one tree at most, and one tree at most stands at their front.
 use Rattle.std.proofs.Common.{◌≡◌, ℕ, ◌+◌, suc, List, [], ◌∷◌, ◌++◌, length, Option, None, Some, sym, ap, ◌∙◌, arith}
-use Rattle.express_lexis.specs.declared.marks.Mark.TheVariants as marks
+use Rattle.express_lexer.specs.declared.marks.Mark.TheVariants as marks
 use Rattle.express_syntax.specs.declared.keyword.Keyword.TheVariants as keywords
 use Rattle.express_syntax.specs.Words.{Word, mark}
 use Rattle.express_syntax.specs.Trees.{Tree, Trees, Qualifiers, words, words_of_trees, words_of_others, words_of_qualifiers}
-use Rattle.express_syntax.specs.Grammar.{Level, primary, expression, Fits, FitsEach, FitsQualifiers, IsExpression}
-use Rattle.express_syntax.specs.Reads.{Stops}
+use Rattle.express_syntax.specs.Grammar.{Level, primary, expression, FitsLevel, FitsEach, FitsQualifiers, IsExpression}
+use Rattle.express_syntax.specs.steps.Reads.{Stops}
 use Rattle.express_syntax.proofs.Parser.{parser, elements_by}
 use Rattle.express_syntax.proofs.Parsed.{reads, reads_qualifiers, reads_elements, reads_more}
 
@@ -16,14 +16,14 @@ same_answer {A} x y r s e = let f : Option (A × List Word) → A × List Word =
     (ap (λ o. (f o).0) e, ap (λ o. (f o).1) e)
 
 -- one tree at most stands at the front of words
-pub one_front : (n : ℕ) (l : Level) (x y : Tree) (r s : List Word) → Fits n l x → Fits n l y → words x ++ r ≡ words y
+pub one_front : (n : ℕ) (l : Level) (x y : Tree) (r s : List Word) → FitsLevel n l x → FitsLevel n l y → words x ++ r ≡ words y
     ++ s → Stops l r → Stops l s → (x ≡ y) × (r ≡ s)
 one_front n l x y r s f g e h k =
     let m : ℕ = suc (length (words x) + length (words y)) in
     same_answer x y r s (sym (reads x n l r m f h (omega arith)) ∙ ap ((parser m).at l) e
     ∙ reads y n l s m g k (omega arith))
 
--- .. and is the words, also where other numbers of brackets are open around them
+-- words are those of at most one tree, for any numbers of brackets open around them
 pub one_tree_at_most : (n m : ℕ) (ws : List Word) (x y : Tree) → IsExpression n ws x → IsExpression m ws y → x ≡ y
 one_tree_at_most n m ws x y a b =
     let k : ℕ = suc (length (words x) + length (words y)) in

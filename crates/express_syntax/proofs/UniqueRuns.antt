@@ -1,6 +1,6 @@
 -- Where a part may stand as a run of tokens, its words are those of one tree or one run.
 use Rattle.std.proofs.Common.{◌≡◌, ℕ, ◌+◌, Bool, true, false, List, [], ◌∷◌, ◌++◌, Option, None, Some, refl, sym, ap, ◌∙◌, subst, append_assoc, codes, inl, inr, map}
-use Rattle.express_lexis.specs.declared.marks.Mark.TheVariants as marks
+use Rattle.express_lexer.specs.declared.marks.Mark.TheVariants as marks
 use Rattle.express_syntax.specs.declared.keyword.Keyword.TheVariants as keywords
 use Rattle.express_syntax.specs.declared.expression.Sign.{Sign}
 use Rattle.express_syntax.specs.declared.expression.Sign.TheVariants as signs
@@ -10,11 +10,11 @@ use Rattle.express_syntax.specs.Trees.{words as words_of_tree}
 use Rattle.express_syntax.specs.Grammar.{depth_limit}
 use Rattle.express_syntax.proofs.UniqueExpressions.{one_tree}
 use Rattle.express_syntax.specs.Runs.{parenthesis, Run, words_of_run, FitsRun}
-use Rattle.express_syntax.specs.PassageLemmas.{run_once}
+use Rattle.express_syntax.specs.steps.PassageLemmas.{run_once}
 use Rattle.express_syntax.specs.Schemas.{Body, parsed, set_aside, Bound, value, unlimited, other_bound, Bounds, Width, width, other_width, Supertype, unsaid, bare, of_one, of_one_of, of_other}
-use Rattle.express_syntax.specs.Written.{words_of_body, words_of_sign, words_of_bound, words_of_bounds, words_of_width, words_of_names, words_of_name, words_of_supertype, with_commas, joined}
+use Rattle.express_syntax.specs.WrittenSchemas.{words_of_body, words_of_sign, words_of_bound, words_of_bounds, words_of_width, words_of_names, words_of_name, words_of_supertype, with_commas, concatenated}
 use Rattle.express_syntax.specs.Profile.{FitsBody, FitsBound, FitsBounds, FitsWidth, FitsSupertype}
-use Rattle.express_syntax.specs.Predict.{RunEnd, in_lower, in_upper, in_parentheses, in_rule, Running}
+use Rattle.express_syntax.specs.steps.Predict.{RunEnd, in_lower, in_upper, in_parentheses, in_rule, Running}
 use Rattle.express_syntax.proofs.StandLemmas.{fits_is_run}
 use Rattle.express_syntax.proofs.Passing.{Led, regroup, step}
 use Rattle.express_syntax.proofs.PassingRuns.{may_of, end_of, pass_some, pass_end}
@@ -133,8 +133,8 @@ width_once n w x u v f g e =
     (same_width n w x f g r.0, r.1)
 
 more_names : (ns ms : List (List ℕ)) (u v : List Word)
-    → joined (map (λ us. mark marks.Comma ∷ us) (map words_of_name ns)) ++ mark marks.Close
-    ∷ u ≡ joined (map (λ us. mark marks.Comma ∷ us) (map words_of_name ms)) ++ mark marks.Close ∷ v → (ns ≡ ms)
+    → concatenated (map (λ us. mark marks.Comma ∷ us) (map words_of_name ns)) ++ mark marks.Close
+    ∷ u ≡ concatenated (map (λ us. mark marks.Comma ∷ us) (map words_of_name ms)) ++ mark marks.Close ∷ v → (ns ≡ ms)
     × (u ≡ v)
 more_names [] [] u v e = (refl, tail_is e)
 more_names [] (m ∷ ms) u v e = absurd cc

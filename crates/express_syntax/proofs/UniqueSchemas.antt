@@ -6,17 +6,17 @@ use Rattle.parsing.specs.Tables.{lookaheads}
 use Rattle.parsing.proofs.Leading.{leads_once}
 use Rattle.parsing.proofs.Lists.{lookaheads_append}
 use Rattle.parsing.proofs.Shown.{IsMore, shown_alike}
-use Rattle.express_lexis.specs.declared.marks.Mark.TheVariants as marks
-use Rattle.express_lexis.specs.Reading.{start}
+use Rattle.express_lexer.specs.declared.marks.Mark.TheVariants as marks
+use Rattle.express_lexer.specs.Reading.{start}
 use Rattle.express_syntax.specs.declared.keyword.Keyword.TheVariants as keywords
 use Rattle.express_syntax.specs.Words.{Word, keyword, name, mark}
 use Rattle.express_syntax.specs.Grammar.{depth_limit}
 use Rattle.express_syntax.specs.Runs.{words_of_routine}
-use Rattle.express_syntax.specs.PassageLemmas.{routine_once}
+use Rattle.express_syntax.specs.steps.PassageLemmas.{routine_once}
 use Rattle.express_syntax.specs.Schemas.{TypeDeclaration, Skipped, function, procedure, rule, constants, subtype_constraint, Declaration, type, entity, skipped, Schema}
-use Rattle.express_syntax.specs.Written.{joined, words_of_rule, words_of_clause, words_of_underlying, words_of_type, words_of_skipped, words_of_declaration, words_of_version, words_of_opening, words_of_schema}
+use Rattle.express_syntax.specs.WrittenSchemas.{concatenated, words_of_rule, words_of_clause, words_of_underlying, words_of_type, words_of_skipped, words_of_declaration, words_of_version, words_of_opening, words_of_schema}
 use Rattle.express_syntax.specs.Profile.{Maybe, IsWithout, FitsType, FitsSkipped, FitsDeclaration, IsVersion, FitsSchema}
-use Rattle.express_syntax.specs.Predict.{schema_symbols, next}
+use Rattle.express_syntax.specs.steps.Predict.{schema_symbols, next}
 use Rattle.express_syntax.specs.Texts.{end_of_text, LocatedToken, Shows, token, lookaheads_of, ReadsAs}
 use Rattle.express_syntax.proofs.Shown.{shown_once}
 use Rattle.express_syntax.proofs.PassingSchemas.{pass_schema}
@@ -35,7 +35,7 @@ until_once end (w ∷ s) (x ∷ t) u v f g e =
     let more = until_once end s t u v f.1 g.1 (tail_is e) in
     ((λ i. first i ∷ more.0 i), more.1)
 
--- .. and its semicolon
+-- words up to the one that ends them, and its semicolon
 ended_once : (end : List ℕ) (s t : List Word) (u v : List Word) → IsWithout end s → IsWithout end t
     → (s ++ name end ∷ mark marks.Semicolon ∷ []) ++ u ≡ (t ++ name end ∷ mark marks.Semicolon ∷ []) ++ v → (s ≡ t)
     × (u ≡ v)
@@ -140,8 +140,8 @@ pub same_words : (x y : Schema) → FitsSchema depth_limit x → FitsSchema dept
 same_words x y f g e =
     let last = mark marks.Semicolon ∷ [] in
     let end = keyword keywords.EndSchema ∷ last in
-    let declarations = joined (map words_of_declaration x.declarations) in
-    let declarations' = joined (map words_of_declaration y.declarations) in
+    let declarations = concatenated (map words_of_declaration x.declarations) in
+    let declarations' = concatenated (map words_of_declaration y.declarations) in
     let opening = regrouped (words_of_opening x) declarations end (words_of_opening y) declarations' end e in
     let n = same_name x.name y.name ((words_of_version x.version ++ last) ++ (declarations ++ end))
     ((words_of_version y.version ++ last) ++ (declarations' ++ end)) (tail_is opening) in

@@ -1,4 +1,4 @@
--- The names of attributes, and the integers that bounds are.
+-- The names of attributes, and the integers of bounds.
 use Rattle.std.specs.Prelude.{ℤ, Bool, true, false, Option, Some}
 use Rattle.step_literals.specs.Decimals.{units, turned, IsWhole}
 use Rattle.express_syntax.specs.declared.expression.Sign.{Sign}
@@ -8,7 +8,7 @@ use Rattle.step_literals.specs.declared.literal.Word.{Word}
 use Rattle.express_syntax.specs.declared.tree.Attribute.{Attribute}
 use Rattle.express_syntax.specs.declared.tree.Attribute.TheVariants as attributes
 
--- an attribute's own name: in `SELF\entity.attribute` the last one
+-- an attribute's own name: the last name of `SELF\entity.attribute`
 abbrev pub name_of : Attribute → Word
 name_of (attributes.Unqualified w) = w
 name_of (attributes.Redeclared e w) = w
@@ -17,7 +17,7 @@ abbrev pub is_minus : Option Sign → Bool
 is_minus (Some Minus) = true
 is_minus _ = false
 
--- a bound is this integer, with its sign (ISO 10303-11, 8.2)
+-- the bound is this integer, with its sign (ISO 10303-11, 8.2)
 abbrev pub IsInteger : Bound → ℤ → Type 0
 IsInteger (value s t) n = IsWhole (turned (is_minus s) (units t)) n
 IsInteger _ n = ⊥

@@ -6,14 +6,15 @@ use Rattle.express_syntax.specs.Words.{Word}
 use Rattle.express_syntax.specs.Trees.{Tree}
 use Rattle.express_syntax.specs.Grammar.{IsExpression}
 
--- Words are those of one expression at most, however many brackets are open around it.
+-- A list of words is the spelling of at most one expression, for any numbers of open brackets
+-- around it.
 abbrev pub ExpressionsAreOneTree : Type 0
 ExpressionsAreOneTree = (n m : ℕ) (ws : List Word) (x y : Tree) → IsExpression n ws x → IsExpression m ws y → x ≡ y
 
--- The spelling of a keyword is that of no other ..
+-- No two keywords have one spelling: looking up the spelling of a keyword finds that keyword.
 abbrev pub KeywordsAreFound : Type 0
 KeywordsAreFound = (k : Keyword) → keyword_at (keyword_text k) ≡ Some k
 
--- .. and a word is only the keyword whose spelling it is.
+-- A word that is found as a keyword is the spelling of that keyword.
 abbrev pub KeywordsAreSpelt : Type 0
 KeywordsAreSpelt = (word : List ℕ) (k : Keyword) → keyword_at word ≡ Some k → word ≡ keyword_text k

@@ -1,4 +1,4 @@
--- The trees that the program's values are; letters of names have no case.
+-- The trees that the program's values represent. Case doesn't matter in names.
 use Rattle.std.specs.Prelude.{ℕ, List, [], ◌∷◌, map}
 use Rattle.step_literals.specs.Words.{upper}
 use Rattle.step_literals.specs.declared.literal.Word.{Word}
@@ -37,7 +37,7 @@ abbrev pub root_of : Root → trees.Root
 root_of roots.SelfInstance = own
 root_of (roots.Name w) = named (capitals w)
 
--- a term behind OR or XOR
+-- OR or XOR, and the term after it
 pub data Choice : Type 0 where
   choice : Junction → Tree → Choice
 
@@ -61,7 +61,7 @@ selections_of (of_attribute a ∷ ss) = attribute a (selections_of ss)
 selections_of (of_group e a ∷ ss) = group e a (selections_of ss)
 selections_of (of_element x ∷ ss) = index x (selections_of ss)
 
--- one expression, with what each inner value is in its place
+-- an expression, where each inner expression is already its tree
 abbrev pub tree_step : Expr-F Tree Selection Choice → Tree
 tree_step (layer.Literal l) = literal (literal_of l)
 tree_step (layer.Signed s n) = signed s (number_of n)
@@ -85,7 +85,7 @@ selection_step (layer.Index x) = of_element x.value
 abbrev pub choice_step : Alternative-F Tree Selection Choice → Choice
 choice_step a = choice a.junction a.term
 
--- the tree that an expression is
+-- the tree that an expression represents
 abbrev pub tree_of : Expr → Tree
 tree_of = fold-Expr Tree Selection Choice tree_step selection_step choice_step
 

@@ -4,7 +4,7 @@ use Rattle.std.specs.Str.{bytes_eq}
 use Rattle.express_syntax.specs.declared.keyword.Keyword.{Keyword}
 use Rattle.express_syntax.specs.declared.keyword.Keyword.TheVariants as keywords
 
--- how a keyword is spelled in capitals
+-- the spelling of a keyword in capitals
 abbrev pub keyword_text : Keyword → List ℕ
 keyword_text keywords.Abstract = codes "ABSTRACT"
 keyword_text keywords.And = codes "AND"

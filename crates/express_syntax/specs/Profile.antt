@@ -1,36 +1,38 @@
--- Which trees are schemas: what is asked beside their words, and where a part stands as a run of tokens.
+-- The trees that are schemas: the conditions on them beside their words, and the parts that are
+-- runs of tokens.
 use Rattle.std.specs.Prelude.{◌≡◌, ℕ, ◌+◌, ◌<◌, List, [], ◌∷◌, ◌++◌, Option, None, Some, codes, ◌⊎◌, Bool}
-use Rattle.express_lexis.specs.declared.marks.Mark.TheVariants as marks
+use Rattle.express_lexer.specs.declared.marks.Mark.TheVariants as marks
 use Rattle.express_syntax.specs.declared.keyword.Keyword.{Keyword}
 use Rattle.express_syntax.specs.declared.keyword.Keyword.TheVariants as keywords
 use Rattle.express_syntax.specs.Words.{Word, keyword, name, mark}
 use Rattle.express_syntax.specs.Words as words
-use Rattle.express_syntax.specs.Grammar.{Fits, expression, IsNone}
+use Rattle.express_syntax.specs.Grammar.{FitsLevel, expression, IsNone}
 use Rattle.express_syntax.specs.Runs.{words_of_run, FitsRun, IsSome, in_rule, in_lower, in_brackets, FitsRoutine}
 use Rattle.express_syntax.specs.Schemas.{Body, parsed, set_aside, Rule, Bound, value, unlimited, other_bound, Bounds, Width, width, other_width, DataType, real, string, binary, array, list, bag, set, Underlying, enumeration, select, data_type, TypeDeclaration, Supertype, of_one_of, of_other, Explicit, Derived, Collection, alone, in_set, in_bag, Inverse, Unique, Entity, Skipped, function, procedure, rule, constants, subtype_constraint, Declaration, type, entity, skipped, Schema}
-use Rattle.express_syntax.specs.Written.{words_of_sign, words_of_names, words_of_body}
+use Rattle.express_syntax.specs.WrittenSchemas.{words_of_sign, words_of_names, words_of_body}
 
--- each of a list
+-- P holds of each element of a list
 abbrev pub Every : {A : Type 0} → (A → Type 0) → List A → Type 0
 Every P [] = Unit {0}
 Every P (x ∷ xs) = P x × Every P xs
 
--- what is asked where something stands
+-- P holds of the element, if any
 abbrev pub Maybe : {A : Type 0} → (A → Type 0) → Option A → Type 0
 Maybe P None = Unit {0}
 Maybe P (Some x) = P x
 
--- one at least
+-- the list has at least one element
 abbrev pub IsFilled : {A : Type 0} → List A → Type 0
 IsFilled [] = ⊥
 IsFilled (x ∷ xs) = Unit {0}
 
--- an expression; or some words that are none, up to the semicolon
+-- An expression, or at least one word up to the semicolon, where the words are no expression.
 abbrev pub FitsBody : ℕ → Body → Type 0
-FitsBody levels (parsed x) = Fits 0 expression x
+FitsBody levels (parsed x) = FitsLevel 0 expression x
 FitsBody levels (set_aside r) = FitsRun levels in_rule 0 r × IsSome r × IsNone 0 (words_of_run r)
 
--- what a rule without a label may begin with: a name and a colon are its label, and one word ends the rules
+-- What a rule without a label may begin with: not a name and a colon, which would be its label, and
+-- not the word that ends the rules.
 abbrev pub Begins : Keyword → List Word → Type 0
 Begins end (keyword k ∷ ws) = (k ≡ end → ⊥)
 Begins end (name n ∷ mark marks.Colon ∷ ws) = ⊥
@@ -39,22 +41,22 @@ Begins end ws = Unit {0}
 abbrev pub BeginsRule : Keyword → Rule → Type 0
 BeginsRule end r = r.label ≡ None → Begins end (words_of_body r.body)
 
--- the rules before the word that ends them
+-- rules up to the word that ends them
 abbrev pub FitsRules : ℕ → Keyword → List Rule → Type 0
 FitsRules levels end rules = Every (λ (r : Rule). FitsBody levels r.body × BeginsRule end r) rules
 
--- the words of a bound that is a tree
+-- the words of a bound that has a tree
 abbrev pub IsBoundText : List Word → Type 0
 IsBoundText ws = ((s : _) × (n : List ℕ) × (ws ≡ words_of_sign s ++ words.integer n ∷ []))
     ⊎ (ws ≡ mark marks.Unknown ∷ [])
 
--- a bound with n brackets and aggregate types open around it
+-- a bound, with n brackets and aggregate types open around it
 abbrev pub FitsBound : ℕ → (Word → Bool) → ℕ → Bound → Type 0
 FitsBound levels may n (value s t) = Unit {0}
 FitsBound levels may n unlimited = Unit {0}
 FitsBound levels may n (other_bound r) = FitsRun levels may n r × IsSome r × (IsBoundText (words_of_run r) → ⊥)
 
--- .. in its bracket
+-- bounds inside their brackets, with n brackets and aggregate types open around these
 abbrev pub FitsBounds : ℕ → ℕ → Bounds → Type 0
 FitsBounds levels n b = (n < levels) × FitsBound levels in_lower (n + 1) b.lower × FitsBound levels in_brackets (n + 1)
     b.upper
@@ -64,7 +66,8 @@ FitsWidth levels n (width t) = n < levels
 FitsWidth levels n (other_width r) = (n < levels) × FitsRun levels in_brackets (n + 1) r × IsSome r
     × ((t : List ℕ) → words_of_run r ≡ words.integer t ∷ [] → ⊥)
 
--- A data type with so many aggregate types around it: each counts for what is behind its OF.
+-- A data type, with n aggregate types open around it. An aggregate type counts for what follows its
+-- OF.
 abbrev pub FitsDataType : ℕ → ℕ → DataType → Type 0
 FitsDataType levels n (real w) = Maybe (FitsWidth levels n) w
 FitsDataType levels n (string w) = Maybe (λ p. FitsWidth levels n p.0) w
@@ -83,7 +86,7 @@ FitsUnderlying levels (data_type k) = FitsDataType levels 0 k
 abbrev pub FitsType : ℕ → TypeDeclaration → Type 0
 FitsType levels t = FitsUnderlying levels t.underlying × Maybe (FitsRules levels keywords.EndType) t.rules
 
--- the words of a supertype expression that is a tree
+-- the words of a supertype expression that has a tree
 abbrev pub IsSupertypeText : List Word → Type 0
 IsSupertypeText ws = ((n : List ℕ) × (ws ≡ name n ∷ [])) ⊎ ((names : List (List ℕ)) × IsFilled names
     × (ws ≡ name (codes "ONEOF") ∷ words_of_names names))
@@ -119,7 +122,7 @@ pub record FitsEntity (levels : ℕ) (e : Entity) : Type 0 where
   pub uniques : Maybe (Every FitsUnique) e.uniques
   pub rules : Maybe (FitsRules levels keywords.EndEntity) e.rules
 
--- the words behind the head of a declaration, without the one that ends it
+-- no word after the head of a declaration is the one that ends it
 abbrev pub IsWithout : List ℕ → List Word → Type 0
 IsWithout end ws = Every (λ w. w ≡ name end → ⊥) ws
 

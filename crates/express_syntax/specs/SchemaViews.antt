@@ -1,4 +1,4 @@
--- The schema that a value is.
+-- The schema that a value of the program represents.
 use Rattle.express_syntax.specs.declared.tree.SchemaTree.{SchemaTree}
 use Rattle.express_syntax.specs.Schemas.{Schema}
 use Rattle.express_syntax.specs.Views.{schema_from}

@@ -1,21 +1,22 @@
--- Schemas as trees (ISO 10303-11, 8 and 9). Names are in capitals; of a part that is set aside its tokens are kept.
+-- Schemas as trees (ISO 10303-11, 8 and 9). Names are in capitals. A part that is set aside is its
+-- tokens.
 use Rattle.std.specs.Prelude.{ℕ, Bool, List, Option}
 use Rattle.express_syntax.specs.declared.expression.Sign.{Sign}
 use Rattle.express_syntax.specs.Words.{Word}
 use Rattle.express_syntax.specs.Trees.{Tree}
 use Rattle.express_syntax.specs.Runs.{Run, Routine}
 
--- an expression, or what is set aside
+-- an expression, or tokens that are set aside
 pub data Body : Type 0 where
   parsed : Tree → Body
   set_aside : Run → Body
 
--- a domain rule, with its label if it has one
+-- a domain rule, with its label, if any
 pub record Rule : Type 0 where
   pub label : Option (List ℕ)
   pub body : Body
 
--- an integer with its sign if it has one, as it is spelt
+-- an integer with its sign, if any, by its spelling; `?`; or any other tokens
 pub data Bound : Type 0 where
   value : Option Sign → List ℕ → Bound
   unlimited : Bound
@@ -29,18 +30,18 @@ pub data Width : Type 0 where
   width : List ℕ → Width
   other_width : Run → Width
 
--- the kind of an attribute's values or of a defined type
+-- the data type of an attribute's values or of a defined type
 pub data DataType : Type 0 where
   integer : DataType
   number : DataType
   boolean : DataType
   logical : DataType
   real : Option Width → DataType
-  -- with FIXED or without
+  -- whether it is FIXED
   string : Option (Width × Bool) → DataType
   binary : Option (Width × Bool) → DataType
   named : List ℕ → DataType
-  -- of OPTIONAL, of UNIQUE
+  -- whether it is of OPTIONAL elements, and of UNIQUE elements
   array : Bounds → Bool → Bool → DataType → DataType
   list : Option Bounds → Bool → DataType → DataType
   bag : Option Bounds → DataType → DataType
@@ -51,13 +52,13 @@ pub data Underlying : Type 0 where
   select : List (List ℕ) → Underlying
   data_type : DataType → Underlying
 
--- rules are kept apart from no WHERE at all
+-- an absent WHERE differs from one without rules
 pub record TypeDeclaration : Type 0 where
   pub name : List ℕ
   pub underlying : Underlying
   pub rules : Option (List Rule)
 
--- what SUPERTYPE says
+-- the SUPERTYPE clause
 pub data Supertype : Type 0 where
   unsaid : Supertype
   bare : Supertype
@@ -90,7 +91,7 @@ pub record Inverse : Type 0 where
   pub attribute : Attribute
   pub collection : Collection
   pub entity : List ℕ
-  -- the entity that declares the attribute that is inverted, if it is said
+  -- the entity that declares the inverted attribute, if it is named
   pub holder : Option (List ℕ)
   pub inverted : List ℕ
 
@@ -112,7 +113,7 @@ pub record Entity : Type 0 where
 pub data Skipped : Type 0 where
   function : List ℕ → Routine → Skipped
   procedure : List ℕ → Routine → Skipped
-  -- the words up to the one that ends it
+  -- the words up to the one that ends the declaration
   rule : List ℕ → List Word → Skipped
   constants : List Word → Skipped
   subtype_constraint : List ℕ → List Word → Skipped
@@ -124,6 +125,6 @@ pub data Declaration : Type 0 where
 
 pub record Schema : Type 0 where
   pub name : List ℕ
-  -- a string, as it is spelt
+  -- a string, by its spelling
   pub version : Option Word
   pub declarations : List Declaration

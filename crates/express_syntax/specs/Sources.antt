@@ -1,4 +1,4 @@
--- The text of which the passages are that a value keeps, and where they stand in it.
+-- The text that the passages of a value belong to, and their byte offsets.
 use Rattle.std.specs.Prelude.{◌≡◌, ℕ, List, [], ◌∷◌}
 use Rattle.step_literals.specs.declared.literal.Word.{Word}
 use Rattle.express_syntax.specs.Words.{name}
@@ -47,18 +47,19 @@ IsRunOf text r = IsPassageOf text r.passage
 abbrev pub IsRoutineOf : List ℕ → Routine → Type 0
 IsRoutineOf text r = IsPassageOf text r.passage
 
--- how many bytes of the text come before a run
+-- the number of bytes of the text before a run
 abbrev pub place_of_run : Run → ℕ
 place_of_run r = r.passage.from
 
--- A passage stands right behind this place of its text, so it is none of those that have the same words elsewhere.
+-- The passage begins with the next token after this offset of its text. So it isn't another passage
+-- with equal words elsewhere.
 abbrev pub IsPassageAt : List ℕ → ℕ → Passage → Type 0
 IsPassageAt text place p = IsPassageOf text p × BeginsNext text place p.words.0 p.from
 
 abbrev pub IsRoutineAt : List ℕ → ℕ → Routine → Type 0
 IsRoutineAt text place r = IsPassageAt text place r.passage
 
--- a name stands behind this place, and this behind the name
+-- a name follows this offset, and `Stands` holds of the offset after the name
 abbrev pub BehindName : List ℕ → ℕ → Word → (ℕ → Type 0) → Type 0
 BehindName text place w Stands = (mid : ℕ) × StandsBehind text place (name (capitals w) ∷ []) mid × Stands mid
 
@@ -83,7 +84,7 @@ IsWidthOf text (widths.Value d) = Unit {0}
 abbrev pub IsFixedWidthOf : List ℕ → FixedWidth → Type 0
 IsFixedWidthOf text w = IsWidthOf text w.width
 
--- one layer of a data type, without those of its elements
+-- one layer of a data type, without the layers of its elements
 abbrev pub IsLayerOf : List ℕ → DataType-F DataType → Type 0
 IsLayerOf text (layer.Real w) = Maybe (λ b. IsWidthOf text b.value) w
 IsLayerOf text (layer.String w) = Maybe (λ b. IsFixedWidthOf text b.value) w
@@ -137,7 +138,7 @@ IsSkippedOf text (skips.Rule w p) = IsPassageOf text p
 IsSkippedOf text (skips.Constants p) = IsPassageOf text p
 IsSkippedOf text (skips.SubtypeConstraint w p) = IsPassageOf text p
 
--- what is kept of it stands right behind its name, and constants behind this place
+-- the passage follows the name of the declaration; for constants it follows this offset
 abbrev pub IsSkippedAt : List ℕ → ℕ → Skipped → Type 0
 IsSkippedAt text place (skips.Function w r) = BehindName text place w (λ mid. IsRoutineAt text mid r)
 IsSkippedAt text place (skips.Procedure w r) = BehindName text place w (λ mid. IsRoutineAt text mid r)

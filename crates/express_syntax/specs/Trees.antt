@@ -1,6 +1,6 @@
--- Expressions as trees, and the words that they are written out as (ISO 10303-11, 12).
+-- Expressions as trees, and the words of their spelling (ISO 10303-11, 12).
 use Rattle.std.specs.Prelude.{ℕ, List, [], ◌∷◌, ◌++◌}
-use Rattle.express_lexis.specs.declared.marks.Mark.TheVariants as marks
+use Rattle.express_lexer.specs.declared.marks.Mark.TheVariants as marks
 use Rattle.express_syntax.specs.declared.keyword.Keyword.TheVariants as keywords
 use Rattle.express_syntax.specs.declared.expression.Sign.{Sign}
 use Rattle.express_syntax.specs.declared.expression.Sign.TheVariants as signs
@@ -16,7 +16,7 @@ use Rattle.express_syntax.specs.declared.expression.Function.{Function}
 use Rattle.express_syntax.specs.declared.expression.Function.TheVariants as functions
 use Rattle.express_syntax.specs.Words.{Word, keyword, name, integer, real, string, encoded, binary, mark}
 
--- as they are spelt
+-- numbers by their spelling
 pub data Number : Type 0 where
   whole : List ℕ → Number
   decimal : List ℕ → Number
@@ -137,7 +137,7 @@ abbrev mutual
   words_of_trees none = []
   words_of_trees (one x xs) = words x ++ words_of_others (mark marks.Comma) xs
 
-  -- with this word before each
+  -- each preceded by this word
   pub words_of_others : Word → Trees → List Word
   words_of_others w none = []
   words_of_others w (one x xs) = w ∷ (words x ++ words_of_others w xs)

@@ -1,4 +1,4 @@
--- The trees that the program's values are; letters of names have no case.
+-- The trees that the program's values represent. Case doesn't matter in names.
 use Rattle.std.specs.Prelude.{ℕ, Bool, List, [], ◌∷◌, map, Option, None, Some}
 use Rattle.step_literals.specs.declared.literal.Word.{Word}
 use Rattle.express_syntax.specs.Words as words
@@ -44,7 +44,7 @@ use Rattle.express_syntax.specs.declared.tree.Version.TheVariants as versions
 use Rattle.express_syntax.specs.Runs as runs
 use Rattle.express_syntax.specs.Schemas as trees
 
--- what stands where something stands
+-- f of the element, if any
 abbrev pub if_some : {A B : Type 0} → (A → B) → Option A → Option B
 if_some f None = None
 if_some f (Some x) = Some (f x)
@@ -83,7 +83,7 @@ width_of (widths.Other r) = trees.other_width (run_of r)
 abbrev pub fixed_of : FixedWidth → trees.Width × Bool
 fixed_of f = (width_of f.width, f.is_fixed)
 
--- one kind, with that of its elements in its place
+-- one layer of a data type, where the data type of the elements is already its tree
 abbrev pub data_type_step : DataType-F trees.DataType → trees.DataType
 data_type_step layer.Integer = trees.integer
 data_type_step layer.Number = trees.number
@@ -187,7 +187,7 @@ declaration_of (declarations.Type t) = trees.type (type_of t)
 declaration_of (declarations.Entity e) = trees.entity (entity_of e)
 declaration_of (declarations.Skipped s) = trees.skipped (skipped_of s)
 
--- the string, as it is spelt
+-- the string, by its spelling
 abbrev pub version_of : Version → words.Word
 version_of (versions.String s) = words.string s.text.now
 version_of (versions.Encoded s) = words.encoded s.text.now

@@ -1,9 +1,9 @@
--- Tokens as the grammar sees them: letters of words have no case, literals are as they are spelt
+-- Tokens as the grammar sees them: case doesn't matter in words, and literals are their spelling
 -- (ISO 10303-11, 7).
 use Rattle.std.specs.Prelude.{ℕ, List, map, Option, None, Some}
-use Rattle.express_lexis.specs.declared.marks.Mark.{Mark}
-use Rattle.express_lexis.specs.declared.token.Sort.{Sort}
-use Rattle.express_lexis.specs.declared.token.Sort.TheVariants as sorts
+use Rattle.express_lexer.specs.declared.marks.Mark.{Mark}
+use Rattle.express_lexer.specs.declared.token.Sort.{Sort}
+use Rattle.express_lexer.specs.declared.token.Sort.TheVariants as sorts
 use Rattle.step_literals.specs.Words.{upper}
 use Rattle.express_syntax.specs.declared.keyword.Keyword.{Keyword}
 use Rattle.express_syntax.specs.declared.lexeme.Lexeme.{Lexeme}
@@ -25,7 +25,7 @@ abbrev pub keyword_or_name : List ℕ → Option Keyword → Word
 keyword_or_name w None = name w
 keyword_or_name w (Some k) = keyword k
 
--- the word that a token of this kind is
+-- the word that a token of this sort represents
 abbrev pub word_of_sort : Sort → Word
 word_of_sort (sorts.Word w) = keyword_or_name (upper w.text.now) (keyword_at (upper w.text.now))
 word_of_sort (sorts.Integer d) = integer d.text.now

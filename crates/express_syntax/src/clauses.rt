@@ -1,5 +1,5 @@
-//! What stands in the clauses of declarations, of which some may be absent, the names of
-//! attributes, and the integers that bounds are.
+//! The optional clauses of declarations as lists, the names of attributes, and the integers of
+//! bounds.
 
 ghost use Rattle.std.specs.Prelude.{◌≡◌, ℤ, [], map, FitsSigned, MatchOption};
 ghost use Rattle.std.specs.Int.{w64};
@@ -14,7 +14,7 @@ use std::slice;
 use step_literals::literal::Word;
 
 impl<'a> TypeDeclaration<'a> {
-    /// Its domain rules; none where WHERE is absent (ISO 10303-11, 9.1).
+    /// Returns the domain rules of a defined type; empty if WHERE is absent (ISO 10303-11, 9.1).
     pub fn domain_rules(&self) -> &[Rule<'a>]
         ensures { MatchOption self.now.rules (result.now ≡ []) (λ rules. result.now ≡ rules.items) }
     {
@@ -26,7 +26,8 @@ impl<'a> TypeDeclaration<'a> {
 }
 
 impl<'a> Entity<'a> {
-    /// Its direct supertypes; none where SUBTYPE OF is absent (ISO 10303-11, 9.2.3).
+    /// Returns the direct supertypes of an entity; empty if SUBTYPE OF is absent (ISO 10303-11,
+    /// 9.2.3).
     pub fn supertypes(&self) -> &[Word<'a>]
         ensures { MatchOption self.now.subtype_of (result.now ≡ [])
             (λ names. result.now ≡ names.items) }
@@ -37,7 +38,8 @@ impl<'a> Entity<'a> {
         }
     }
 
-    /// Its derived attributes; none where DERIVE is absent (ISO 10303-11, 9.2.1.2).
+    /// Returns the derived attributes of an entity; empty if DERIVE is absent (ISO 10303-11,
+    /// 9.2.1.2).
     pub fn derived_attributes(&self) -> &[Derived<'a>]
         ensures { MatchOption self.now.derived (result.now ≡ [])
             (λ derived. result.now ≡ derived.items) }
@@ -48,7 +50,8 @@ impl<'a> Entity<'a> {
         }
     }
 
-    /// Its inverse attributes; none where INVERSE is absent (ISO 10303-11, 9.2.1.3).
+    /// Returns the inverse attributes of an entity; empty if INVERSE is absent (ISO 10303-11,
+    /// 9.2.1.3).
     pub fn inverse_attributes(&self) -> &[Inverse<'a>]
         ensures { MatchOption self.now.inverses (result.now ≡ [])
             (λ inverses. result.now ≡ inverses.items) }
@@ -59,7 +62,8 @@ impl<'a> Entity<'a> {
         }
     }
 
-    /// Its uniqueness rules; none where UNIQUE is absent (ISO 10303-11, 9.2.2.1).
+    /// Returns the uniqueness rules of an entity; empty if UNIQUE is absent (ISO 10303-11,
+    /// 9.2.2.1).
     pub fn uniqueness_rules(&self) -> &[Unique<'a>]
         ensures { MatchOption self.now.uniques (result.now ≡ [])
             (λ uniques. result.now ≡ uniques.items) }
@@ -70,7 +74,7 @@ impl<'a> Entity<'a> {
         }
     }
 
-    /// Its domain rules; none where WHERE is absent (ISO 10303-11, 9.2.2.2).
+    /// Returns the domain rules of an entity; empty if WHERE is absent (ISO 10303-11, 9.2.2.2).
     pub fn domain_rules(&self) -> &[Rule<'a>]
         ensures { MatchOption self.now.rules (result.now ≡ []) (λ rules. result.now ≡ rules.items) }
     {
@@ -82,7 +86,7 @@ impl<'a> Entity<'a> {
 }
 
 impl<'a> Attribute<'a> {
-    /// Its name, without the entity that is named before it where it is redeclared.
+    /// Returns the attribute's own name; for a redeclared attribute the name after the entity.
     pub fn name(&self) -> Word<'a>
         ensures { result ≡ name_of self.now }
     {
@@ -94,7 +98,7 @@ impl<'a> Attribute<'a> {
 }
 
 impl<'a> AttributeList<'a> {
-    /// The list of these.
+    /// Returns the list of these attributes.
     pub fn of(attributes: Vec<Attribute<'a>>) -> AttributeList<'a>
         ensures { attributes_of result ≡ map attribute_of attributes.entry.items }
     {
@@ -104,7 +108,7 @@ impl<'a> AttributeList<'a> {
         }
     }
 
-    /// Its attributes.
+    /// Returns the attributes of the list.
     pub fn as_slice(&self) -> &[Attribute<'a>]
         ensures { map attribute_of result.now ≡ attributes_of self.now }
     {
@@ -115,7 +119,7 @@ impl<'a> AttributeList<'a> {
     }
 }
 
-/// Whether a sign stands there that is `-`.
+/// Whether there is a sign and it is `-`.
 fn is_minus(sign: Option<Sign>) -> bool
     ensures { result ≡ is_minus sign }
 {
@@ -123,8 +127,10 @@ fn is_minus(sign: Option<Sign>) -> bool
 }
 
 impl<'a> Bound<'a> {
-    /// The integer that it is, with its sign (ISO 10303-11, 8.2); none where it is beyond the range
-    /// of `i64`, for `?`, and for tokens that are no integer.
+    /// Returns the integer of the bound, with its sign (ISO 10303-11, 8.2).
+    ///
+    /// `None` if the integer is beyond the range of `i64`, for `?`, and for tokens that are no
+    /// integer.
     pub fn value(&self) -> Option<i64>
         ensures { MatchOption result
             ((n : ℤ) → FitsSigned w64 n → IsInteger (bound_of self.now) n → ⊥)

@@ -1,9 +1,9 @@
 //! Expressions as trees (ISO 10303-11, 12).
 
-use express_lexis::literal::{Binary, EncodedString, SimpleString};
+use express_lexer::literal::{Binary, EncodedString, SimpleString};
 use step_literals::literal::{Decimal, Word};
 
-/// So many parentheses, brackets and braces may be open at once.
+/// The greatest number of parentheses, brackets and braces that are open at once.
 pub const LEVELS: u32 = 64;
 
 /// An integer or a real without a sign (ISO 10303-11, 7.5).
@@ -75,7 +75,7 @@ pub enum Function {
     Typeof,
 }
 
-/// What a reference begins with.
+/// The first part of a reference.
 #[derive(Clone, Copy)]
 pub enum Root<'a> {
     /// SELF
@@ -83,7 +83,7 @@ pub enum Root<'a> {
     Name(Word<'a>),
 }
 
-/// What a reference selects (ISO 10303-11, 12.7).
+/// A qualifier of a reference (ISO 10303-11, 12.7).
 #[derive(Drop)]
 #[cycle(expression)]
 pub enum Qualifier<'a> {
@@ -91,11 +91,11 @@ pub enum Qualifier<'a> {
     Attribute(Word<'a>),
     /// `\`, an entity, `.` and an attribute
     Group(Word<'a>, Word<'a>),
-    /// An element, in brackets.
+    /// `[`, the index of an element, and `]`
     Index(Box<Expr<'a>>),
 }
 
-/// OR or XOR, and the term behind it.
+/// OR or XOR, and the term after it.
 #[derive(Drop)]
 #[cycle(expression)]
 pub struct Alternative<'a> {
@@ -108,10 +108,10 @@ pub struct Alternative<'a> {
 #[cycle(expression)]
 pub enum Expr<'a> {
     Literal(Literal<'a>),
-    /// A sign before a number.
+    /// A sign and a number.
     Signed(Sign, Number<'a>),
     Reference(Root<'a>, Vec<Qualifier<'a>>),
-    /// In parentheses.
+    /// An expression in parentheses.
     Parenthesized(Box<Expr<'a>>),
     /// `[ .. ]`
     Aggregate(Vec<Expr<'a>>),
@@ -133,9 +133,9 @@ pub enum Expr<'a> {
     /// NVL of two arguments.
     Nvl(Box<Expr<'a>>, Box<Expr<'a>>),
     Not(Box<Expr<'a>>),
-    /// AND between the first and the others, of which there is one at least.
+    /// AND between the first expression and the others, of which there is at least one.
     Conjunction(Box<Expr<'a>>, Vec<Expr<'a>>),
-    /// OR and XOR, from left to right, behind the first; there is one at least.
+    /// OR and XOR, from left to right: the first term and at least one more.
     Disjunction(Box<Expr<'a>>, Vec<Alternative<'a>>),
     Comparison(Box<Expr<'a>>, Relation, Box<Expr<'a>>),
 }

@@ -1,4 +1,4 @@
-//! Why a text is no schema that is read, and why a schema isn't used.
+//! Why a text isn't read as a schema, and why a schema isn't used.
 
 ghost use Rattle.std.specs.Prelude.{◌≡◌};
 ghost use Rattle.express_syntax.specs.declared.fault.SyntaxFault.TheVariants.{Memory};
@@ -6,7 +6,7 @@ ghost use Rattle.express_syntax.specs.declared.fault.SyntaxFault.TheVariants.{Me
 use std::alloc::{AllocError, AllocFailed};
 use thiserror::Error;
 
-/// A part of EXPRESS that is left out.
+/// A part of EXPRESS that isn't read.
 #[derive(Clone, Copy, Debug, PartialEq, Eq, Error)]
 pub enum LeftOut {
     /// USE FROM (ISO 10303-11, 11.1).
@@ -27,35 +27,35 @@ pub enum LeftOut {
     /// A generic entity type (ISO 10303-11, 9.5.3).
     #[error("GenericEntity")]
     GenericEntity,
-    /// A second schema in the text, behind the first one or inside it.
+    /// A second schema in the text, after the first one or inside it.
     #[error("SecondSchema")]
     SecondSchema,
-    /// More bytes than are read.
+    /// More bytes than the limit.
     #[error("TooLarge")]
     TooLarge,
 }
 
-/// What is wrong at the place of a fault.
+/// What is wrong at the byte offset of a fault.
 #[derive(Clone, Copy, Debug, PartialEq, Eq, Error)]
 pub enum FaultKind {
-    /// No token within the limits begins there.
+    /// No token within the limits begins here.
     #[error("S1 BadToken")]
     BadToken,
-    /// Another token is expected there, or the text ends.
+    /// Another token is expected here, or the text ends.
     #[error("S2 Expected")]
     Expected,
-    /// A part of EXPRESS begins there that is left out.
+    /// A part of EXPRESS begins here that isn't read.
     #[error("S8 LeftOut {0}")]
     LeftOut(LeftOut),
-    /// A bracket or an aggregate type too many is open.
+    /// More brackets or aggregate types are open than the limit.
     #[error("S9 TooDeep")]
     TooDeep,
 }
 
-/// Why a text is no schema by its tokens.
+/// Why a text isn't the tokens of a schema.
 #[derive(Clone, Copy, Debug, PartialEq, Eq)]
 pub enum SyntaxFault {
-    /// What is wrong, and how many bytes come before it.
+    /// What is wrong, and the number of bytes before it.
     Fault { kind: FaultKind, place: u64 },
     /// Memory ran out.
     Memory,
@@ -80,16 +80,16 @@ impl<T: Drop> From<AllocFailed<T>> for SyntaxFault {
 /// What is wrong with a name of a schema.
 #[derive(Clone, Copy, Debug, PartialEq, Eq, Error)]
 pub enum NameFault {
-    /// Nothing of the name is declared that its place asks for.
+    /// No declaration with this name is of the kind that is required here.
     #[error("S3 UnknownName")]
     UnknownName,
-    /// It is declared twice.
+    /// The name is declared twice.
     #[error("S4 DuplicateName")]
     DuplicateName,
     /// An entity is its own proper supertype (ISO 10303-11, 9.2.3).
     #[error("S5 SupertypeCycle")]
     SupertypeCycle,
-    /// A defined type stands for itself (ISO 10303-11, 8.3).
+    /// A defined type is its own underlying type, directly or through others (ISO 10303-11, 8.3).
     #[error("S6 TypeCycle")]
     TypeCycle,
 }
@@ -97,10 +97,10 @@ pub enum NameFault {
 /// Why a schema isn't used: a fault of its text or of a name in it.
 #[derive(Debug, PartialEq, Eq, Error, Drop)]
 pub enum SchemaFault {
-    /// What is wrong with the text, and how many bytes come before it.
+    /// What is wrong with the text, and the number of bytes before it.
     #[error("{kind} at byte {place}")]
     Text { kind: FaultKind, place: u64 },
-    /// What is wrong with a name, which is in capitals.
+    /// What is wrong with a name. The name is in capitals.
     #[error("{kind} {name}")]
     Name { kind: NameFault, name: String },
     /// Memory ran out.
@@ -109,7 +109,7 @@ pub enum SchemaFault {
 }
 
 impl From<SyntaxFault> for SchemaFault {
-    ghost use Rattle.express_syntax.specs.Faults.{schema_fault};
+    ghost use Rattle.express_syntax.specs.steps.Faults.{schema_fault};
 
     ghost from_gives = { λ fault e. e ≡ schema_fault fault };
 

@@ -1,14 +1,14 @@
-//! The words of EXPRESS that are never names.
+//! The reserved words of EXPRESS.
 
 ghost use Rattle.std.specs.Prelude.{◌≡◌};
 ghost use Rattle.step_literals.specs.Words.{upper};
 ghost use Rattle.express_syntax.specs.Keywords.{keyword_text, keyword_among, keyword_at};
-ghost use Rattle.express_syntax.specs.Letters.{keywords_from};
+ghost use Rattle.express_syntax.specs.steps.Letters.{keywords_from};
 
 use step_literals::literal::Word;
 
-/// A word that is never a name (ISO 10303-11, 7.2.1): those of the declarations and expressions
-/// that are read, and those that begin what isn't read (USE, REFERENCE, RENAMED, EXTENSIBLE,
+/// A word that is never a name (ISO 10303-11, 7.2.1): the words of the declarations and expressions
+/// that are read, and the words that begin what isn't read (USE, REFERENCE, RENAMED, EXTENSIBLE,
 /// BASED_ON, GENERIC_ENTITY).
 #[derive(Clone, Copy, Debug, PartialEq, Eq)]
 pub enum Keyword {
@@ -68,7 +68,7 @@ pub enum Keyword {
 }
 
 impl Keyword {
-    /// How it is spelled in capitals.
+    /// Returns the spelling of the keyword in capitals.
     pub fn text(self) -> &'static [u8]
         ensures { result.now ≡ keyword_text self }
     {
@@ -128,7 +128,7 @@ impl Keyword {
         }
     }
 
-    /// The keyword that a word is, if it is one, whatever the case of its letters.
+    /// Returns the keyword with this spelling, regardless of case, if any.
     pub fn of(word: &Word<'_>) -> Option<Keyword>
         ensures { result ≡ keyword_at (upper word.now.text.now) }
     {
@@ -140,7 +140,7 @@ impl Keyword {
     }
 }
 
-/// The keywords that begin with this letter, a capital.
+/// Returns the keywords that begin with this letter, a capital.
 fn beginning_with(letter: u8) -> &'static [Keyword]
     ensures { result.now ≡ keywords_from letter }
 {
@@ -189,7 +189,7 @@ fn beginning_with(letter: u8) -> &'static [Keyword]
     }
 }
 
-/// The first of these keywords that a word is.
+/// Returns the first of these keywords with this spelling, regardless of case, if any.
 fn among(keywords: &[Keyword], text: &[u8]) -> Option<Keyword>
     ensures { result ≡ keyword_among keywords.now (upper text.now) }
 {

@@ -1,4 +1,4 @@
-//! Tokens by what the grammar tells apart.
+//! Tokens, as far as the grammar distinguishes them.
 
 ghost use Rattle.std.specs.Prelude.{◌≡◌, ◌↔◌, IsTrue};
 ghost use Rattle.step_literals.specs.Words.{upper};
@@ -6,12 +6,12 @@ ghost use Rattle.express_syntax.specs.Keywords.{keyword_at};
 ghost use Rattle.express_syntax.specs.Words.{word_of, word_of_sort, keyword_or_name, keyword, mark};
 
 use crate::keyword::Keyword;
-use express_lexis::literal::{Binary, EncodedString, SimpleString};
-use express_lexis::marks::Mark;
-use express_lexis::token::{Sort, Token};
+use express_lexer::literal::{Binary, EncodedString, SimpleString};
+use express_lexer::marks::Mark;
+use express_lexer::token::{Sort, Token};
 use step_literals::literal::{Decimal, Word};
 
-/// A token without its place; a word is a keyword or a name.
+/// A token without its byte offset; a word is a keyword or a name.
 #[derive(Clone, Copy)]
 pub enum Lexeme<'a> {
     Keyword(Keyword),
@@ -25,7 +25,7 @@ pub enum Lexeme<'a> {
 }
 
 impl<'a> Lexeme<'a> {
-    /// What a token is to the grammar.
+    /// Returns the lexeme of a token.
     pub fn of(token: &Token<'a>) -> Lexeme<'a>
         ensures { word_of result ≡ word_of_sort token.now.sort }
     {
@@ -51,7 +51,7 @@ impl<'a> Lexeme<'a> {
     }
 }
 
-/// Whether it is this mark.
+/// Whether the lexeme is this mark.
 pub fn is_mark(lexeme: Lexeme<'_>, wanted: Mark) -> bool
     ensures { IsTrue result ↔ (word_of lexeme.entry ≡ mark wanted) }
 {
@@ -61,7 +61,7 @@ pub fn is_mark(lexeme: Lexeme<'_>, wanted: Mark) -> bool
     }
 }
 
-/// Whether it is this keyword.
+/// Whether the lexeme is this keyword.
 pub fn is_keyword(lexeme: Lexeme<'_>, wanted: Keyword) -> bool
     ensures { IsTrue result ↔ (word_of lexeme.entry ≡ keyword wanted) }
 {

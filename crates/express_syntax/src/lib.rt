@@ -1,4 +1,5 @@
-//! Schemas and expressions of EXPRESS (ISO 10303-11) as trees, which texts read as them, and the laws of that.
+//! Schemas and expressions of EXPRESS (ISO 10303-11) as trees, the texts that read as them, and the
+//! laws of reading.
 #![tactic(auto)]
 
 mod clauses;

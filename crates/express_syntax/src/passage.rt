@@ -1,14 +1,14 @@
-//! Passages of a text that are kept as they stand.
+//! Passages of a text that are kept as tokens.
 
 ghost use Rattle.std.specs.Prelude.{◌≡◌, ◌≤◌, List, length, slice_range};
 ghost use Rattle.express_syntax.specs.Words.{Word};
 ghost use Rattle.express_syntax.specs.Runs;
 ghost use Rattle.express_syntax.specs.Runs.{words_of_run, words_of_routine, FitsRoutine};
 ghost use Rattle.express_syntax.specs.Passages.{Stands, IsRun, WordsBetween, RunOf, RoutineOf};
-ghost use Rattle.express_syntax.specs.PassageLemmas.{words_prop, run_prop, routine_prop};
+ghost use Rattle.express_syntax.specs.steps.PassageLemmas.{words_prop, run_prop, routine_prop};
 
-/// Tokens of a text, from the first byte of the first to the last byte of the last, and the layout
-/// between them.
+/// Tokens of a text with the layout between them, from the first byte of the first token to the
+/// last byte of the last.
 #[derive(Clone, Copy)]
 pub struct Passage<'a> {
     text: &'a [u8],
@@ -19,16 +19,15 @@ pub struct Passage<'a> {
     pub ghost words: { WordsBetween text.now from to } by { words_prop text.now from to },
 }
 
-/// Tokens in which brackets are closed as they are opened: a part that there is no tree for, or
-/// that is set aside.
+/// Tokens with balanced brackets: a part without a tree, or one that is set aside.
 #[derive(Clone, Copy)]
 pub struct Run<'a> {
     passage: Passage<'a>,
     pub ghost run: { RunOf passage.words.0 } by { run_prop passage.words.0 },
 }
 
-/// What stands behind the name of a function or procedure, up to the word that ends it; those in it
-/// nest (ISO 10303-11, 9.5).
+/// The tokens after the name of a function or procedure, up to the word that ends it. Functions and
+/// procedures inside it nest (ISO 10303-11, 9.5).
 #[derive(Clone, Copy)]
 pub struct Routine<'a> {
     passage: Passage<'a>,
@@ -36,7 +35,7 @@ pub struct Routine<'a> {
 }
 
 impl<'a> Passage<'a> {
-    /// The passage of a text from one place to another, where tokens stand.
+    /// Returns the passage of `text` between two byte offsets that enclose tokens.
     pub fn between(text: &'a [u8], from: usize, to: usize) -> Passage<'a>
         requires { (ws : List Word) × Stands text.now from ws to }
         ensures words { (ws : List Word) → Stands text.now from ws to → result.words.0 ≡ ws }
@@ -45,7 +44,7 @@ impl<'a> Passage<'a> {
         Passage { text, from, to }
     }
 
-    /// The tokens and the layout between them, as they stand in the text.
+    /// Returns the tokens and the layout between them, as in the text.
     pub fn text(&self) -> &'a [u8]
         ensures { result.now ≡ slice_range self.now.text.now self.now.from self.now.to }
     {
@@ -53,7 +52,7 @@ impl<'a> Passage<'a> {
         &text[from..to]
     }
 
-    /// How many bytes of the text come before it.
+    /// Returns the number of bytes of the text before the passage.
     pub fn place(&self) -> usize
         ensures { result ≡ self.now.from }
     {
@@ -62,7 +61,7 @@ impl<'a> Passage<'a> {
 }
 
 impl<'a> Run<'a> {
-    /// The run that a passage is.
+    /// Returns the run with the tokens of a passage.
     pub fn of(passage: Passage<'a>) -> Run<'a>
         requires { (r : Runs.Run) × IsRun r × (words_of_run r ≡ passage.words.0) }
         ensures run { (r : Runs.Run) → IsRun r → words_of_run r ≡ passage.entry.words.0
@@ -72,7 +71,7 @@ impl<'a> Run<'a> {
         Run { passage }
     }
 
-    /// The passage that it is.
+    /// Returns the passage of the run.
     pub fn passage(&self) -> Passage<'a>
         ensures { result ≡ self.now.passage }
     {
@@ -81,7 +80,7 @@ impl<'a> Run<'a> {
 }
 
 impl<'a> Routine<'a> {
-    /// The routine that a passage is.
+    /// Returns the routine with the tokens of a passage.
     pub fn of(passage: Passage<'a>) -> Routine<'a>
         requires { (r : Runs.Routine) × FitsRoutine r × (words_of_routine r ≡ passage.words.0) }
         ensures routine { (r : Runs.Routine) → FitsRoutine r
@@ -91,7 +90,7 @@ impl<'a> Routine<'a> {
         Routine { passage }
     }
 
-    /// The passage that it is.
+    /// Returns the passage of the routine.
     pub fn passage(&self) -> Passage<'a>
         ensures { result ≡ self.now.passage }
     {

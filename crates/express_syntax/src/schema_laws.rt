@@ -1,4 +1,4 @@
-//! Laws of the definitions alone.
+//! Laws about the definitions, apart from any code.
 
 ghost use Rattle.express_syntax.specs.SchemaLaws.{
   FaultsOnce,
@@ -7,7 +7,7 @@ ghost use Rattle.express_syntax.specs.SchemaLaws.{
   ReadsWithoutFault,
 };
 
-/// A text reads as one schema at most.
+/// A text reads as at most one schema.
 pub fn a_text_reads_as_one_schema()
     ensures { ReadsOnce }
 {}
@@ -17,7 +17,7 @@ pub fn what_reads_has_no_fault()
     ensures { ReadsWithoutFault }
 {}
 
-/// A text has one first fault at most.
+/// A text has at most one first fault.
 pub fn a_text_has_one_first_fault()
     ensures { FaultsOnce }
 {}

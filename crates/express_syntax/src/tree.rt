@@ -5,14 +5,14 @@ ghost use Rattle.express_syntax.specs.Views.{schema_from};
 
 use crate::expression::{Expr, Sign};
 use crate::passage::{Passage, Routine, Run};
-use express_lexis::literal::{EncodedString, SimpleString};
+use express_lexer::literal::{EncodedString, SimpleString};
 use step_literals::literal::{Decimal, Word};
 
-/// What a rule or a derived attribute says.
+/// The expression of a rule or a derived attribute.
 #[derive(Drop)]
 pub enum Body<'a> {
     Expression(Expr<'a>),
-    /// Tokens that are no expression that is read.
+    /// Tokens that aren't an expression that is read.
     SetAside(Run<'a>),
 }
 
@@ -26,11 +26,11 @@ pub struct Rule<'a> {
 /// A bound of an aggregate type (ISO 10303-11, 8.2).
 #[derive(Drop)]
 pub enum Bound<'a> {
-    /// An integer, with its sign if it has one.
+    /// An integer, with its sign, if any.
     Value(Option<Sign>, Decimal<'a>),
     /// `?`
     Unlimited,
-    /// Tokens that are neither.
+    /// Any other tokens.
     Other(Box<Run<'a>>),
 }
 
@@ -45,20 +45,19 @@ pub struct Bounds<'a> {
 #[derive(Clone, Copy)]
 pub enum Width<'a> {
     Value(Decimal<'a>),
-    /// Tokens that are no integer.
+    /// Tokens other than a single integer.
     Other(Run<'a>),
 }
 
-/// The width of a STRING or BINARY, and whether all its values have it (ISO 10303-11, 8.1.6 and
-/// 8.1.7).
+/// The width of a STRING or BINARY, and whether it is FIXED (ISO 10303-11, 8.1.6 and 8.1.7).
 #[derive(Clone, Copy)]
 pub struct FixedWidth<'a> {
     pub width: Width<'a>,
     pub is_fixed: bool,
 }
 
-/// The data type of an attribute's values, or of a defined type (ISO 10303-11, 8). What few data
-/// types have stands in boxes, so that the others are small.
+/// The data type of an attribute's values, or of a defined type (ISO 10303-11, 8). Parts that few
+/// data types have are boxed, so that the other data types are small.
 #[derive(Drop)]
 pub enum DataType<'a> {
     Integer,
@@ -95,12 +94,13 @@ pub enum DataType<'a> {
     },
 }
 
-/// What a defined type stands for (ISO 10303-11, 8.3 and 8.4).
+/// The underlying type of a defined type: an enumeration, a select or a data type (ISO 10303-11, 8.3
+/// and 8.4).
 #[derive(Drop)]
 pub enum Underlying<'a> {
-    /// An enumeration of these items, of which there is one at least.
+    /// An enumeration of these items, of which there is at least one.
     Enumeration(Vec<Word<'a>>),
-    /// A select of these types, of which there is one at least.
+    /// A select of these types, of which there is at least one.
     Select(Vec<Word<'a>>),
     DataType(DataType<'a>),
 }
@@ -110,20 +110,20 @@ pub enum Underlying<'a> {
 pub struct TypeDeclaration<'a> {
     pub name: Word<'a>,
     pub underlying: Underlying<'a>,
-    /// The rules behind WHERE, where it stands.
+    /// The rules after WHERE, or `None` if there is no WHERE.
     pub rules: Option<Vec<Rule<'a>>>,
 }
 
-/// What an entity says of its subtypes (ISO 10303-11, 9.2.5).
+/// The SUPERTYPE clause of an entity (ISO 10303-11, 9.2.5).
 #[derive(Drop)]
 pub enum Supertype<'a> {
-    /// Nothing.
+    /// No clause.
     Unsaid,
     /// SUPERTYPE without an expression.
     Bare,
     /// SUPERTYPE OF one entity.
     OfOne(Word<'a>),
-    /// SUPERTYPE OF ONEOF these entities, of which there is one at least.
+    /// SUPERTYPE OF ONEOF these entities, of which there is at least one.
     OfOneOf(Vec<Word<'a>>),
     /// SUPERTYPE OF any other expression.
     OfOther(Run<'a>),
@@ -137,7 +137,7 @@ pub enum Attribute<'a> {
     Redeclared(Word<'a>, Word<'a>),
 }
 
-/// Attributes that are declared together: mostly one, which takes no memory of its own.
+/// Attributes that are declared together: mostly one, which allocates nothing.
 #[derive(Drop)]
 pub enum AttributeList<'a> {
     One(Attribute<'a>),
@@ -147,7 +147,7 @@ pub enum AttributeList<'a> {
 /// Explicit attributes of one data type (ISO 10303-11, 9.2.1.1).
 #[derive(Drop)]
 pub struct Explicit<'a> {
-    /// One at least.
+    /// At least one.
     pub attributes: AttributeList<'a>,
     pub is_optional: bool,
     pub data_type: DataType<'a>,
@@ -161,7 +161,8 @@ pub struct Derived<'a> {
     pub body: Body<'a>,
 }
 
-/// How many entities an inverse attribute may have (ISO 10303-11, 9.2.1.3).
+/// The collection of an inverse attribute: one entity, or a SET or BAG of them (ISO 10303-11,
+/// 9.2.1.3).
 #[derive(Drop)]
 pub enum Collection<'a> {
     One,
@@ -175,7 +176,7 @@ pub struct Inverse<'a> {
     pub attribute: Attribute<'a>,
     pub collection: Collection<'a>,
     pub entity: Word<'a>,
-    /// The entity that declares the attribute that is inverted, if it is said.
+    /// The entity that declares the inverted attribute, if it is named.
     pub holder: Option<Word<'a>>,
     pub inverted: Word<'a>,
 }
@@ -184,17 +185,17 @@ pub struct Inverse<'a> {
 #[derive(Drop)]
 pub struct Unique<'a> {
     pub label: Option<Word<'a>>,
-    /// One at least.
+    /// At least one.
     pub attributes: Vec<Attribute<'a>>,
 }
 
-/// An entity (ISO 10303-11, 9.2). A clause is kept apart from one in which nothing stands.
+/// An entity (ISO 10303-11, 9.2). A clause that is absent differs from a clause that is empty.
 #[derive(Drop)]
 pub struct Entity<'a> {
     pub name: Word<'a>,
     pub is_abstract: bool,
     pub supertype: Supertype<'a>,
-    /// The entities behind SUBTYPE OF, of which there is one at least.
+    /// The entities after SUBTYPE OF, of which there is at least one.
     pub subtype_of: Option<Vec<Word<'a>>>,
     pub explicits: Vec<Explicit<'a>>,
     pub derived: Option<Vec<Derived<'a>>>,
@@ -232,8 +233,8 @@ pub enum Version<'a> {
     Encoded(EncodedString<'a>),
 }
 
-/// A schema that some text reads as: it is within the limits, with runs only where there is no tree
-/// (ISO 10303-11, 9.3). The fields are for reading.
+/// A schema that some text reads as (ISO 10303-11, 9.3). It is within the limits, with runs only
+/// for parts that have no tree. The fields are for reading.
 #[derive(Drop)]
 pub struct SchemaTree<'a> {
     pub name: Word<'a>,

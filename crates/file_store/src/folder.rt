@@ -1,8 +1,8 @@
 //! The file system as a store.
 
-use crate::making::Making;
-use crate::opening::Opening;
 use crate::paths::{PathMaker, PathOpener, remove, sync, take_place};
+use crate::read_files::Opening;
+use crate::written_files::Making;
 use devices::counted::Counted;
 use devices::device::WriteFault;
 use files::fault::{FileFault, Role};
@@ -15,13 +15,13 @@ use std::rt::Files;
 pub struct Folder<'p, R: Files> {
     alloc: Global,
     rt: &'p R,
-    /// The file that was taken back first.
+    /// The writer that was taken back first.
     output: Option<Making<PathMaker<'p, R>>>,
-    /// The one behind it.
+    /// The writer that was taken back second.
     certificate: Option<Making<PathMaker<'p, R>>>,
 }
 
-/// Has the device keep all of a file that was taken back and is to take the place of another. A fault is told by its
+/// Syncs a written file before it replaces the old one, if there is one. Errors carry the file's
 /// role.
 fn hold<R: Files>(making: &Option<Making<PathMaker<'_, R>>>, role: Role) -> Result<(), FileFault> {
     let Some(making) = making else {
@@ -33,7 +33,7 @@ fn hold<R: Files>(making: &Option<Making<PathMaker<'_, R>>>, role: Role) -> Resu
     }
 }
 
-/// Has the device keep all of both, the output first.
+/// Syncs both written files, the output first.
 fn hold_both<R: Files>(
     output: &Option<Making<PathMaker<'_, R>>>,
     certificate: &Option<Making<PathMaker<'_, R>>>,
@@ -42,7 +42,7 @@ fn hold_both<R: Files>(
     hold(certificate, Role::Certificate)
 }
 
-/// Puts a file in its place, where one was taken back. A fault is told by its role.
+/// Replaces an old file with the written one, if there is one. Errors carry the file's role.
 fn replace<R: Files>(
     making: Option<Making<PathMaker<'_, R>>>,
     role: Role,
@@ -56,7 +56,7 @@ fn replace<R: Files>(
     }
 }
 
-/// Takes a file away, where one was taken back and another one stands under its path.
+/// Removes a written file that was to replace an old one, if there is one.
 fn discard<R: Files>(making: Option<Making<PathMaker<'_, R>>>) {
     if let Some(making) = making {
         remove(making);
@@ -64,8 +64,8 @@ fn discard<R: Files>(making: Option<Making<PathMaker<'_, R>>>) {
 }
 
 impl<'p, R: Files> Folder<'p, R> {
-    /// The files that this runtime reaches. Where memory runs out for the name of a file that is to take the place of
-    /// another, it can't be made.
+    /// Returns the store of the files that this runtime reaches. A file that is to replace another
+    /// one can't be created if memory runs out for its name.
     pub fn new(alloc: Global, rt: &'p R) -> Folder<'p, R> {
         Folder {
             alloc,
@@ -75,10 +75,14 @@ impl<'p, R: Files> Folder<'p, R> {
         }
     }
 
-    /// Puts the files that were written in the places of those that stand under their paths: the output, which was taken
-    /// back first, and then the certificate. `Device` comes where not all of one can be kept, and both stay then that
-    /// stand under their paths; or where one can't be renamed, and what stands under its path stays then, and so does
-    /// what stands under that of the one behind it.
+    /// Replaces the old files at the written paths, first that of the output, which was taken back
+    /// first, then that of the certificate. A file whose path held no regular file is in place
+    /// already.
+    ///
+    /// # Errors
+    /// - `Device` if a written file can't be synced; both old files stay.
+    /// - `Device` of the output if it can't be renamed; both old files stay.
+    /// - `Device` of the certificate if it can't be renamed; the old certificate stays.
     pub fn finish(self) -> Result<(), FileFault> {
         let Folder {
             output,
@@ -97,7 +101,7 @@ impl<'p, R: Files> Folder<'p, R> {
         replace(certificate, Role::Certificate)
     }
 
-    /// Takes away the files that were written, where others stand under their paths, which stay.
+    /// Removes the written files that were to replace old ones, which stay.
     pub fn abandon(self) {
         let Folder {
             output,
@@ -122,7 +126,7 @@ impl<'p, R: Files> Store<'p> for Folder<'p, R> {
         Counted::new(Making::new(PathMaker::new(self.alloc, self.rt, path)))
     }
 
-    // What was written takes its place once all is done.
+    // `finish` puts the written file in place, once everything is done.
     fn keep(&mut self, _path: &'p str, writer: Counted<Making<PathMaker<'p, R>>>) {
         let making = writer.into_inner();
         if self.output.is_none() {

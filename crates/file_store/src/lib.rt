@@ -1,10 +1,10 @@
-//! The file system as a store of files. A file that stands under the path of one that is written stays as it is until all
-//! of the new one is written.
+//! The file system as a store of files. An old file at the path of one that is written stays as it is until
+//! all of the new one is written.
 #![tactic(auto)]
 
 pub mod folder;
-pub mod making;
-pub mod opening;
+pub mod path_identity;
 mod paths;
+pub mod read_files;
 mod replacement;
-pub mod same;
+pub mod written_files;

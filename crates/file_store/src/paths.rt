@@ -1,8 +1,8 @@
-//! Files of the file system, by their paths.
+//! Files of the file system, by path.
 
-use crate::making::{FileMaker, Making};
-use crate::opening::{FileOpener, Unopened};
+use crate::read_files::{FileOpener, Unopened};
 use crate::replacement::Replacement;
+use crate::written_files::{FileMaker, Making};
 use devices::device::WriteFault;
 use std::alloc::Global;
 use std::fs::{OpenFile, OpenOptions};
@@ -10,7 +10,7 @@ use std::io::ErrorKind;
 use std::rt::Files;
 use std::{fs, io};
 
-/// Opens the file of a path to read it.
+/// Opens the file at a path to read it.
 #[derive(Drop)]
 pub struct PathOpener<'p, R: Files> {
     pub(crate) rt: &'p R,
@@ -31,8 +31,8 @@ impl<'p, R: Files> FileOpener for PathOpener<'p, R> {
     }
 }
 
-/// Makes the file of a path to write it. Where a regular file stands under the path, another one is made beside that,
-/// which takes its place in the end; anything else is written as it is opened.
+/// Creates the file at a path to write it. If a regular file is there, another one is created
+/// beside it, which replaces it in the end. Anything else is opened and written in place.
 #[derive(Drop)]
 pub struct PathMaker<'p, R: Files> {
     alloc: Global,
@@ -42,7 +42,7 @@ pub struct PathMaker<'p, R: Files> {
 }
 
 impl<'p, R: Files> PathMaker<'p, R> {
-    /// What makes the file of this path.
+    /// Returns the maker of the file at this path.
     pub(crate) fn new(alloc: Global, rt: &'p R, path: &'p str) -> PathMaker<'p, R> {
         PathMaker {
             alloc,
@@ -52,7 +52,8 @@ impl<'p, R: Files> PathMaker<'p, R> {
         }
     }
 
-    /// Makes what is written beside the file that stands under the path, where it is a regular one.
+    /// Creates the new file beside the one at the path, if that is a regular file; otherwise
+    /// returns `standing`.
     fn replacing(&mut self, standing: R::File) -> io::Result<R::File> {
         let metadata = standing.metadata()?;
         if !metadata.is_file() {
@@ -68,7 +69,7 @@ impl<'p, R: Files> PathMaker<'p, R> {
 impl<'p, R: Files> FileMaker for PathMaker<'p, R> {
     type File = R::File;
 
-    /// What may not be written isn't replaced.
+    /// Opens the old file first: a file that may not be written isn't replaced.
     fn make(&mut self) -> io::Result<R::File> {
         match OpenOptions::new().write(true).open(self.rt, self.path) {
             Ok(standing) => self.replacing(standing),
@@ -78,8 +79,10 @@ impl<'p, R: Files> FileMaker for PathMaker<'p, R> {
     }
 }
 
-/// Has the device keep all of a file that is to take the place of the one that stands under its path; of a file where none
-/// stood it does nothing. `WriteFault` comes where it can't.
+/// Syncs a file that is to replace an old one. Does nothing if there was no old one.
+///
+/// # Errors
+/// - `WriteFault` if the file can't be synced.
 pub(crate) fn sync<R: Files>(making: &Making<PathMaker<'_, R>>) -> Result<(), WriteFault> {
     let (Some(_), Some(file)) = (&making.maker.replacement, &making.file) else {
         return Ok(());
@@ -92,8 +95,10 @@ pub(crate) fn sync<R: Files>(making: &Making<PathMaker<'_, R>>) -> Result<(), Wr
     }
 }
 
-/// Puts a file, which was synced before, in the place of the one that stands under its path. `WriteFault` comes where it
-/// can't be renamed; the other one stays then.
+/// Replaces the old file at the path with the written one, which was synced before.
+///
+/// # Errors
+/// - `WriteFault` if the file can't be renamed; the old one stays.
 pub(crate) fn take_place<R: Files>(making: Making<PathMaker<'_, R>>) -> Result<(), WriteFault> {
     let Making { maker, written, .. } = making;
     let PathMaker {
@@ -110,7 +115,7 @@ pub(crate) fn take_place<R: Files>(making: Making<PathMaker<'_, R>>) -> Result<(
     }
 }
 
-/// Takes a file away where another one stands under its path.
+/// Removes a written file that was to replace an old one.
 pub(crate) fn remove<R: Files>(making: Making<PathMaker<'_, R>>) {
     let Making { maker, .. } = making;
     let PathMaker {

@@ -1,4 +1,4 @@
-//! Files that take the place of others in their folders.
+//! Files that replace others in their folders.
 
 use std::alloc::{AllocError, Global};
 use std::fs::{OpenFile, OpenOptions, Permissions};
@@ -8,17 +8,17 @@ use std::path::{Path, PathBuf};
 use std::rt::Files;
 use std::{fs, io};
 
-/// How many names are tried for a file beside another one.
+/// The number of names that are tried for a file beside another one.
 const NAMES: u32 = 10000;
 
-/// The paths of a file that is written, and of the one in the same folder whose place it is to take.
+/// The paths of a file that is written, and of the file in the same folder that it replaces.
 #[derive(Drop)]
 pub(crate) struct Replacement {
     beside: PathBuf,
     standing: PathBuf,
 }
 
-/// The path of the file itself, where this may be a link to it.
+/// Returns the path of the file itself if `path` is a link, otherwise `path`.
 fn followed<R: Files>(alloc: Global, rt: &R, path: &str) -> io::Result<PathBuf> {
     if fs::symlink_metadata(rt, path)?.is_symlink() {
         return rt.canonicalize(alloc, path);
@@ -26,7 +26,7 @@ fn followed<R: Files>(alloc: Global, rt: &R, path: &str) -> io::Result<PathBuf> 
     Ok(PathBuf::from_str(alloc, path)?)
 }
 
-/// The path of a file in the same folder, by a number.
+/// Returns the path of the file `.stepmin-NUMBER` in the same folder.
 fn path_beside(alloc: Global, standing: &PathBuf, number: u32) -> Result<PathBuf, AllocError> {
     let mut name = String::from_str(alloc, ".stepmin-")?;
     let mut digits = itoa::Buffer::new();
@@ -34,7 +34,7 @@ fn path_beside(alloc: Global, standing: &PathBuf, number: u32) -> Result<PathBuf
     standing.with_file_name(alloc, name.as_str())
 }
 
-/// Makes a file that nobody else reads, where none of this path is there.
+/// Creates a file at a free path, which only its owner may read and write.
 fn make_new<R: Files>(rt: &R, path: &str) -> io::Result<R::File> {
     OpenOptions::new()
         .write(true)
@@ -43,7 +43,7 @@ fn make_new<R: Files>(rt: &R, path: &str) -> io::Result<R::File> {
         .open(rt, path)
 }
 
-/// Makes a file beside this one, under the first name that is free.
+/// Creates a file beside `standing`, under the first free name.
 fn make_beside<R: Files>(
     alloc: Global,
     rt: &R,
@@ -61,7 +61,7 @@ fn make_beside<R: Files>(
 }
 
 impl Replacement {
-    /// Makes a file beside the one of this path, with these permissions.
+    /// Creates a file with these permissions beside the file at `path`.
     pub(crate) fn make<R: Files>(
         alloc: Global,
         rt: &R,
@@ -78,7 +78,8 @@ impl Replacement {
         Ok((file, replacement))
     }
 
-    /// Puts the file, of which the device has all, in the place of the other. Where that fails it is removed.
+    /// Replaces the old file with the written one, which is synced. Removes the written one if that
+    /// fails.
     pub(crate) fn take_place<R: Files>(&self, rt: &R) -> io::Result<()> {
         let renamed = fs::rename(rt, &self.beside, &self.standing);
         if renamed.is_err() {
@@ -87,7 +88,7 @@ impl Replacement {
         renamed
     }
 
-    /// Removes the file. One that can't be removed is left, which changes no other.
+    /// Removes the written file. If it can't be removed it is left, which changes no other file.
     pub(crate) fn remove<R: Files>(&self, rt: &R) {
         let _left = fs::remove_file(rt, &self.beside);
     }

@@ -11,7 +11,7 @@ use Rattle.files.specs.declared.fault.Role.{Role}
 use Rattle.files.specs.declared.fault.FileFault.{FileFault}
 use Rattle.files.specs.declared.fault.FileFault.TheVariants.{Text, Device, Memory}
 
--- where what is read plays this role
+-- a source in this role isn't read to its end
 abbrev pub read_fault : Role → ReadFault → FileFault
 read_fault role reads.Device = Device role 0
 read_fault role reads.TooLarge = Text role (LeftOut TooLarge) (2 ^ 40)
@@ -21,6 +21,6 @@ abbrev pub text_fault : Role → TextFault → FileFault
 text_fault role texts.Memory = Memory
 text_fault role (texts.Fault kind place) = Text role kind place
 
--- where what is written does
+-- a file in this role isn't written
 abbrev pub write_fault : Role → WriteFault → FileFault
 write_fault role fault = Device role fault.written

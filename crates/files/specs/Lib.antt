@@ -1,4 +1,4 @@
-pub mod Reads
 pub mod Faults
 pub mod Lines
 pub mod Stores
+pub mod steps

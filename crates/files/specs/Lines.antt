@@ -1,4 +1,4 @@
--- The line for each fault.
+-- The line that reports each fault.
 use Rattle.std.specs.Prelude.{ℕ, List, [], ◌∷◌, ◌++◌, Bool, true, false, codes, decimal}
 use Rattle.std.specs.Bool.{if◌then◌else◌}
 use Rattle.step_structures.specs.FaultTexts.{kind_text}
@@ -13,14 +13,14 @@ role_text File = codes "file"
 role_text Output = codes "output"
 role_text Certificate = codes "certificate"
 
--- the roles whose fault tells how many bytes went out
+-- the roles for which the line of a device fault states how many bytes were written
 abbrev pub is_counted : Role → Bool
 is_counted Schema = false
 is_counted File = false
 is_counted Output = true
 is_counted Certificate = true
 
--- so many bytes went out
+-- the number of bytes written, for a role whose line states it
 abbrev pub count_text : Role → ℕ → List ℕ
 count_text role written = if is_counted role then codes " after " ++ decimal written ++ codes " bytes" else []
 
@@ -29,6 +29,6 @@ fault_text (Text role kind place) = role_text role ++ codes ": " ++ kind_text ki
 fault_text (Device role written) = codes "device: " ++ role_text role ++ count_text role written
 fault_text Memory = codes "memory"
 
--- the text and the end of the line
+-- the text of a fault and a line end
 abbrev pub line_of : FileFault → List ℕ
 line_of fault = fault_text fault ++ 10 ∷ []

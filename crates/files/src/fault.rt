@@ -1,8 +1,8 @@
-//! Why a file isn't read or written, and the line that says so.
+//! Why a file isn't read or written, and the line that reports it.
 
 ghost use Rattle.std.specs.Prelude.{◌≡◌, false, decimal, is_err};
 ghost use Rattle.devices.specs.Emits.{Emits};
-ghost use Rattle.devices.specs.Prints.{Prints};
+ghost use Rattle.devices.specs.steps.Prints.{Prints};
 ghost use Rattle.files.specs.Faults.{read_fault, text_fault, write_fault};
 ghost use Rattle.files.specs.Lines.{count_text, fault_text, is_counted, line_of, role_text};
 ghost use Rattle.files.specs.declared.fault.FileFault.TheVariants.{Device, Text};
@@ -12,24 +12,24 @@ use devices::device::{Sink, WriteFault};
 use devices::printer::Printer;
 use step_structures::fault::{FaultKind, LeftOut, TextFault};
 
-/// The most bytes that a file has.
+/// The largest size of a file that is read, in bytes (2^40).
 pub const LIMIT: u64 = 1 << 40;
 
-/// What a file is to a command.
+/// The role of a file in a command.
 #[derive(Clone, Copy, Debug, PartialEq, Eq)]
 pub enum Role {
-    /// The schema that is read.
+    /// The schema, which is read.
     Schema,
-    /// The file that is read.
+    /// The STEP file that is read.
     File,
-    /// The file that is written, or the output.
+    /// The STEP file that is written, the output that is verified, or the standard output.
     Output,
-    /// The certificate.
+    /// The certificate, written or read.
     Certificate,
 }
 
 impl Role {
-    /// The word for it.
+    /// Returns the name of the role in messages.
     pub fn name(self) -> &'static str
         ensures { result.now ≡ role_text self }
     {
@@ -41,7 +41,7 @@ impl Role {
         }
     }
 
-    // Whether the line of a fault tells how many bytes went out.
+    // Whether the line of a device fault states how many bytes were written.
     fn is_counted(self) -> bool
         ensures { result ≡ is_counted self }
     {
@@ -57,15 +57,15 @@ impl Role {
 /// Why a file isn't read or written.
 #[derive(Clone, Copy, Debug, PartialEq, Eq)]
 pub enum FileFault {
-    /// The text of a file isn't read: the fault that shows first, and the number of bytes before
-    /// it.
+    /// The text of the file of `role` isn't accepted: `kind` is the fault that shows first, and
+    /// `place` its byte offset.
     Text {
         role: Role,
         kind: FaultKind,
         place: u64,
     },
-    /// A file can't be opened, made, read or written: how many bytes of a text went out to it, as
-    /// far as 2^64 - 1.
+    /// The file of `role` can't be opened, created, read or written. `written` is the number of
+    /// bytes of the text that were written to it, at most 2^64 - 1; 0 for a file that is read.
     Device {
         role: Role,
         written: u64,
@@ -75,7 +75,7 @@ pub enum FileFault {
 }
 
 impl FileFault {
-    /// The fault where a source of this role wasn't read to its end.
+    /// Returns the fault of a source in `role` that wasn't read to its end because of `fault`.
     pub fn of_read(role: Role, fault: ReadFault) -> FileFault
         ensures { result ≡ read_fault role fault }
     {
@@ -90,7 +90,7 @@ impl FileFault {
         }
     }
 
-    /// The fault where the text of a file of this role isn't read.
+    /// Returns the fault of a file in `role` whose text isn't accepted because of `fault`.
     pub fn of_text(role: Role, fault: TextFault) -> FileFault
         ensures { result ≡ text_fault role fault }
     {
@@ -100,7 +100,7 @@ impl FileFault {
         }
     }
 
-    /// The fault where a file of this role isn't written.
+    /// Returns the fault of a file in `role` that isn't written because of `fault`.
     pub fn of_write(role: Role, fault: WriteFault) -> FileFault
         ensures { result ≡ write_fault role fault }
     {
@@ -111,7 +111,7 @@ impl FileFault {
     }
 }
 
-// A number.
+// Prints a number in decimal.
 fn print_number<S: Sink>(printer: &mut Printer, out: &mut S, number: u64)
     ensures { Prints S.held S.has_failed out.old out.new printer.old printer.new (decimal number) }
 {
@@ -119,7 +119,7 @@ fn print_number<S: Sink>(printer: &mut Printer, out: &mut S, number: u64)
     printer.print(out, digits.format(number).as_bytes());
 }
 
-// What a text fault says.
+// Prints the line of a text fault, without its end.
 fn print_text_fault<S: Sink>(
     printer: &mut Printer,
     out: &mut S,
@@ -137,7 +137,7 @@ fn print_text_fault<S: Sink>(
     print_number(printer, out, place);
 }
 
-// How many bytes went out, where that is told.
+// Prints how many bytes were written, if the line of this role states it.
 fn print_count<S: Sink>(printer: &mut Printer, out: &mut S, role: Role, written: u64)
     ensures { Prints S.held S.has_failed out.old out.new printer.old printer.new
         (count_text role written) }
@@ -149,7 +149,7 @@ fn print_count<S: Sink>(printer: &mut Printer, out: &mut S, role: Role, written:
     }
 }
 
-// What a device's fault says.
+// Prints the line of a device fault, without its end.
 fn print_device_fault<S: Sink>(printer: &mut Printer, out: &mut S, role: Role, written: u64)
     ensures { Prints S.held S.has_failed out.old out.new printer.old printer.new
         (fault_text (Device role written)) }
@@ -159,7 +159,7 @@ fn print_device_fault<S: Sink>(printer: &mut Printer, out: &mut S, role: Role, w
     print_count(printer, out, role, written);
 }
 
-// What the fault says.
+// Prints the line of a fault, without its end.
 fn print_fault<S: Sink>(printer: &mut Printer, out: &mut S, fault: FileFault)
     ensures { Prints S.held S.has_failed out.old out.new printer.old printer.new
         (fault_text fault) }
@@ -171,8 +171,10 @@ fn print_fault<S: Sink>(printer: &mut Printer, out: &mut S, fault: FileFault)
     }
 }
 
-/// Prints the line of the fault. `WriteFault` comes where the sink fails; a front of the line went
-/// out then.
+/// Prints the line that reports `fault`.
+///
+/// # Errors
+/// - `WriteFault` if the sink fails; a prefix of the line was written.
 pub fn print_line<S: Sink>(out: &mut S, fault: FileFault) -> Result<(), WriteFault>
     ensures emits { Emits (S.held out.old) (S.held out.new) (line_of fault) result }
     ensures failed { S.has_failed out.old ≡ false → S.has_failed out.new ≡ is_err result }

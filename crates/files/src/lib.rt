@@ -1,5 +1,5 @@
-//! The files of a command: what each is to it, a source read to its end, where files lie by their paths,
-//! and why one isn't read or written, with the line that says so.
+//! The files of a command: their roles, access by path, a source read to its end, and why a file isn't read
+//! or written, with the line that reports it.
 #![tactic(auto)]
 
 pub mod fault;

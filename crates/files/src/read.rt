@@ -1,4 +1,4 @@
-//! A source read to its end.
+//! Reading a source to its end.
 
 ghost use Rattle.std.specs.Prelude.{
   ◌≡◌,
@@ -12,7 +12,7 @@ ghost use Rattle.std.specs.Prelude.{
   MatchResult,
 };
 ghost use Rattle.std.specs.Io.KnownBytes.{IsAtEnd, Keeps};
-ghost use Rattle.files.specs.Reads.{
+ghost use Rattle.files.specs.steps.Reads.{
   DeviceFailsAs,
   IsBeyond,
   ReadsBehind,
@@ -31,7 +31,7 @@ pub enum ReadFault {
     /// The device failed.
     #[error("the device failed")]
     Device,
-    /// More bytes come than the limit.
+    /// More bytes than the limit come.
     #[error("the text is too large")]
     TooLarge,
     /// Memory ran out.
@@ -41,7 +41,7 @@ pub enum ReadFault {
 
 const PIECE: usize = 65536;
 
-// Reads up to `room` bytes behind these, and says how many: none at the end alone.
+// Appends up to `room` bytes to `bytes` and returns how many; 0 only at the end of the source.
 fn read_more<S: Source>(
     source: &mut S,
     bytes: &mut Vec<u8>,
@@ -74,8 +74,12 @@ fn read_more<S: Source>(
     }
 }
 
-/// All that comes from a source. `Device` comes where the source fails, `TooLarge` where more than
-/// `limit` bytes come, as from a source without an end, and `Memory` where memory runs out.
+/// Reads `source` to its end and returns all its bytes, at most `limit`.
+///
+/// # Errors
+/// - `Device` if the source fails.
+/// - `TooLarge` if more than `limit` bytes come, as from a source without an end.
+/// - `Memory` if memory runs out.
 pub fn read_whole<S: Source>(
     alloc: Global,
     source: &mut S,

@@ -1,4 +1,4 @@
-//! Files by their names.
+//! Access to files by path.
 
 ghost use Rattle.std.specs.Prelude.{
   ◌≡◌,
@@ -16,16 +16,17 @@ ghost use Rattle.files.specs.Stores.{Access, HoldsWritten, Opens, to_keep, to_re
 
 use devices::device::{Sink, Source};
 
-/// A place where files lie under their paths. What it gives is owned, so that several files are
-/// open at once.
+/// A place that holds files under their paths. Its readers and writers are owned values, so several
+/// files can be open at once.
 pub trait Store<'p> {
-    // what the file of this path holds, where the store tells it
+    // the content of the file at a path, if the store reveals it
     ghost contents: { Self → List ℕ → Option (List ℕ) } = { λ _ _. None };
 
-    // whether each read of the file of this path fails, or none does, where the store tells it
+    // whether each read of the file at a path fails (`true`) or none does (`false`), if the store
+    // reveals it
     ghost fails: { Self → List ℕ → Option Bool } = { λ _ _. None };
 
-    // the files that were opened and kept, in turn, where the store tells them
+    // the accesses so far, in order, if the store reveals them
     ghost opened: { Self → Option (List Access) } = { λ _. None };
 
     /// A file that is read.
@@ -34,28 +35,30 @@ pub trait Store<'p> {
     /// A file that is written.
     type Writer: Sink;
 
-    /// The file of this path, opened at the first read: that read fails where it can't be opened.
+    /// Returns a reader of the file at `path`. The file is opened at the first read, which fails if
+    /// it can't be opened.
     fn reader(&mut self, path: &'p str) -> Self::Reader
         ensures fresh { Self.Reader.has_failed result ≡ false }
         ensures contents { Self.Reader.to_come result ≡ contents self.old path.now }
         ensures fails { Self.Reader.fails result ≡ fails self.old path.now }
         ensures opened { Opens (opened self.old) (opened self.new) (to_read path.now ∷ []) }
-        // Opening a file changes none, nor what is told of it.
+        // Opening a file changes no file, nor what the store reveals of one.
         ensures kept { (other : List ℕ) → contents self.new other ≡ contents self.old other }
         ensures same { (other : List ℕ) → fails self.new other ≡ fails self.old other };
 
-    /// A file for this path, made at the first write: that write fails where it can't be made.
+    /// Returns a writer of the file at `path`. The file is created at the first write, which fails
+    /// if it can't be created.
     fn writer(&mut self, path: &'p str) -> Self::Writer
         ensures fresh { Self.Writer.has_failed result ≡ false }
         ensures empty { IfSome (Self.Writer.held result) (λ bytes. bytes ≡ []) }
         ensures opened { Opens (opened self.old) (opened self.new) (to_write path.now ∷ []) }
-        // No file changes before the first write, and what a file holds is told when the writer is
-        // taken back.
+        // No file changes before the first write. The new content is known only when `keep` takes
+        // the writer back.
         ensures kept { (other : List ℕ) → contents self.new other ≡ contents self.old other }
         ensures same { (other : List ℕ) → fails self.new other ≡ fails self.old other };
 
-    /// Takes back what `writer` gave for this path: the file holds what was written, or what it held
-    /// where nothing was.
+    /// Takes back a writer that `writer` returned for `path`. The file then holds what was written,
+    /// or its former content if nothing was written.
     fn keep(&mut self, path: &'p str, writer: Self::Writer)
         ensures written { HoldsWritten (Self.Writer.held writer) (contents self.old path.now)
             (contents self.new path.now) }

@@ -4,22 +4,22 @@ use Rattle.express_syntax.specs.Schemas.{Schema}
 use Rattle.step_structures.specs.Trees.{File}
 use Rattle.step_exchange.specs.declared.structure.Exchange.{Exchange}
 use Rattle.step_exchange.specs.Exchanges.{structure}
-use Rattle.step_equal.specs.Rows.{Row}
-use Rattle.step_equal.specs.declared.table.Table as held
-use Rattle.step_equal.specs.TableViews.{table_of}
+use Rattle.value_equality.specs.Rows.{Row}
+use Rattle.value_equality.specs.declared.table.Table as held
+use Rattle.value_equality.specs.TableViews.{table_of}
 use Rattle.conformance.specs.PlainRows.{AreRowsOf}
 use Rattle.conformance.specs.Populations.{Instance}
-use Rattle.conformance.specs.Said.{Said, instances}
-use Rattle.pin_choices.specs.declared.choice.Chosen.{Chosen}
-use Rattle.step_pins.specs.Lists.{AreUniqueOf}
-use Rattle.step_pins.specs.Pinned.{is_pinned}
-use Rattle.step_pins.specs.declared.weak_pins.WeakPins.{WeakPins}
-use Rattle.check_findings.specs.declared.findings.Found.{Found}
-use Rattle.ruled_populations.specs.Checking.{ChecksFile, IsConforming}
-use Rattle.ruled_populations.specs.declared.checked.Checked.TheVariants as checked
-use Rattle.merge_tables.specs.ComputedTables.{AreTablesUnder, Comes}
-use Rattle.merge_tables.specs.Merges.{last_of}
-use Rattle.merge_tables.specs.declared.merging.Merging.TheVariants.{Faulty, Clean}
+use Rattle.conformance.specs.SchemaMeanings.{Said, instances}
+use Rattle.merge_choices.specs.declared.choice.Chosen.{Chosen}
+use Rattle.population_pins.specs.Lists.{AreUniqueOf}
+use Rattle.population_pins.specs.PopulationPins.{is_pinned}
+use Rattle.population_pins.specs.declared.weak_pins.WeakPins.{WeakPins}
+use Rattle.file_findings.specs.declared.findings.Found.{Found}
+use Rattle.file_findings.specs.steps.Checking.{ChecksFile, IsConforming}
+use Rattle.file_findings.specs.declared.checked_file.Checked.TheVariants as checked
+use Rattle.merge_tables.specs.steps.ComputedTables.{AreTablesUnder, Comes}
+use Rattle.merge_tables.specs.steps.Merges.{last_of}
+use Rattle.merge_tables.specs.declared.file_merge.Merging.TheVariants.{Faulty, Clean}
 use Rattle.merge_tables.proofs.Tabled.{tables-of, members-of}
 
 pub comes-faulty : (s : Schema) (f : File) (c : Chosen) (names : List ℕ) (x : Found) → ChecksFile s f c (checked.Faulty x)

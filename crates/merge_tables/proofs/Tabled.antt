@@ -7,15 +7,15 @@ use Rattle.step_structures.specs.Trees.{File}
 use Rattle.step_exchange.specs.declared.structure.Exchange.{Exchange}
 use Rattle.step_exchange.specs.Exchanges.{structure}
 use Rattle.step_exchange.proofs.Named.{names-are}
-use Rattle.step_equal.specs.Tables.{Table}
-use Rattle.step_equal.proofs.Rounds.{standard_is_valid}
+use Rattle.value_equality.specs.Tables.{Table}
+use Rattle.value_equality.proofs.Rounds.{standard_is_valid}
 use Rattle.conformance.specs.Pins.{IsWeaklyPinned}
-use Rattle.conformance.specs.Said.{Said, instances}
+use Rattle.conformance.specs.SchemaMeanings.{Said, instances}
 use Rattle.conformance.proofs.Rowed.{same_names}
 use Rattle.conformance.proofs.FileNames.{names_from}
-use Rattle.merged_populations.proofs.PinsFound.{pins_are_found}
-use Rattle.merge_tables.specs.Merges.{AreTablesOf}
-use Rattle.merge_tables.specs.ComputedTables.{AreTablesUnder}
+use Rattle.merge_theorems.proofs.PinsFound.{pins_are_found}
+use Rattle.merge_tables.specs.steps.Merges.{AreTablesOf}
+use Rattle.merge_tables.specs.steps.ComputedTables.{AreTablesUnder}
 
 module _ (s : Schema) (said : Said s) (weak : ℕ → Bool) (first second : Table) where
   pub tables-of : (f : File) → AreTablesUnder s (instances s said f) weak first second → (chosen : List Name)

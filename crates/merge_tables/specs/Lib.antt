@@ -1,2 +1,1 @@
-pub mod Merges
-pub mod ComputedTables
+pub mod steps

@@ -1,5 +1,5 @@
-//! The tables by which a file is merged, where nothing is found of it.
+//! The tables by which a file is merged if it has no findings.
 #![tactic(auto)]
 
-pub mod merging;
+pub mod file_merge;
 mod tables;

@@ -1,28 +1,28 @@
-//! The tables of a population: under its weak pins, and under the gentle ones that these give.
+//! The tables of a population: under its weak pins, and under the gentle pins that these give.
 
 ghost use Rattle.std.specs.Prelude.{IfOk, IsTrue, List, MatchOption};
 ghost use Rattle.express_syntax.specs.Schemas.{Schema};
-ghost use Rattle.step_equal.specs.Rows.{IsPopulation};
-ghost use Rattle.step_equal.specs.Standard.{IsStandard};
-ghost use Rattle.step_equal.specs.TableViews.{table_of};
+ghost use Rattle.value_equality.specs.Rows.{IsPopulation};
+ghost use Rattle.value_equality.specs.Standard.{IsStandard};
+ghost use Rattle.value_equality.specs.TableViews.{table_of};
 ghost use Rattle.conformance.specs.PlainRows.{AreRowsOf};
 ghost use Rattle.conformance.specs.Populations.{Instance};
-ghost use Rattle.row_shapes.specs.Signatures.{AreSignatures};
-ghost use Rattle.step_pins.specs.Lists.{AreUniqueOf};
-ghost use Rattle.step_pins.specs.Pinned.{is_pinned};
-ghost use Rattle.merge_tables.specs.ComputedTables.{AreTablesUnder};
-ghost use Rattle.merge_tables.specs.Merges.{last_of};
+ghost use Rattle.row_signatures.specs.steps.Signatures.{AreSignatures};
+ghost use Rattle.population_pins.specs.Lists.{AreUniqueOf};
+ghost use Rattle.population_pins.specs.PopulationPins.{is_pinned};
+ghost use Rattle.merge_tables.specs.steps.ComputedTables.{AreTablesUnder};
+ghost use Rattle.merge_tables.specs.steps.Merges.{last_of};
 
-use row_shapes::signatures::{Signatures, signatures_of};
+use merge_classes::classes::{refine_by, refine_last};
+use population_pins::pin_names::Pins;
+use population_pins::weak_pins::{GentlePins, WeakPins};
+use row_signatures::signatures::{Signatures, signatures_of};
 use std::alloc::{AllocError, Global};
 use std::hash::RandomState;
-use step_classes::classes::{refine_by, refine_last};
-use step_equal::plain::Plain;
-use step_equal::table::Table;
-use step_pins::pins::Pins;
-use step_pins::weak_pins::{GentlePins, WeakPins};
+use value_equality::plain::Plain;
+use value_equality::table::Table;
 
-/// The table of partition refinement of rows under these pins.
+/// Returns the table of partition refinement of `rows` under these pins.
 fn standard_table(
     alloc: Global,
     keys: RandomState,
@@ -37,8 +37,8 @@ fn standard_table(
     Ok(classes.into_table())
 }
 
-/// The table of partition refinement of rows under these pins. Their shapes and references aren't
-/// needed then.
+/// Returns the table of partition refinement of `rows` under these pins, and consumes the
+/// signatures.
 fn last_table(
     alloc: Global,
     keys: RandomState,
@@ -53,8 +53,8 @@ fn last_table(
     Ok(classes.into_table())
 }
 
-/// The table under the gentle pins; none where these are the weak ones. Rows, shapes and references are
-/// let go of.
+/// Returns the table under the gentle pins; `None` if these are the weak pins. Consumes rows and
+/// signatures, to free their memory.
 fn second_table(
     alloc: Global,
     keys: RandomState,
@@ -73,7 +73,8 @@ fn second_table(
     Ok(Some(table))
 }
 
-/// The tables of rows under these weak pins and under the gentle ones that they give.
+/// Returns the table of the rows under these weak pins, and the one under the gentle pins that
+/// these give, if they differ.
 fn tables_by(
     alloc: Global,
     keys: RandomState,
@@ -93,8 +94,9 @@ fn tables_by(
     Ok((first, second))
 }
 
-/// The table of the rows of a population under its weak pins, and the one under the gentle pins by
-/// the classes of the first. Names and keys are hashed by these keys.
+/// Returns the table of a population's rows under its weak pins. If the gentle pins differ, also
+/// returns the table under these; the classes of the first table determine them. Names and keys are
+/// hashed with `keys`.
 pub(crate) fn standard_tables(
     alloc: Global,
     keys: RandomState,

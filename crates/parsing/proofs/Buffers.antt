@@ -5,9 +5,9 @@ use Rattle.std.proofs.Math.Seq.{take-add}
 use Rattle.std.proofs.lemmas.List.Edits.{take-paste, drop-paste}
 use Rattle.std.specs.List.{copy_within}
 use borrow.Rule.Slice.PartMut.{put_mid}
-use Rattle.parsing.specs.Cells.{Cells}
-use Rattle.parsing.specs.Gaps.{Frees}
-use Rattle.parsing.specs.Closing.{Closes}
+use Rattle.parsing.specs.steps.Cells.{Cells}
+use Rattle.parsing.specs.steps.Gaps.{Frees}
+use Rattle.parsing.specs.steps.Closing.{Closes}
 
 module _ {C : Type 0} where
   -- what a buffer shows

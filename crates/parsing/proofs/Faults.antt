@@ -9,7 +9,7 @@ use Rattle.parsing.proofs.Running.{Reaches, run_err, run_append, reaches_run, re
 pub front_of_front : {W : Type 0} (L : List W → Type 0) (a b : List W) → IsViablePrefix L (a ++ b) → IsViablePrefix L a
 front_of_front L a b h = (b ++ h.0, subst L (append_assoc a b h.0) h.1)
 
--- .. of tokens
+-- a prefix of tokens with a viable prefix is viable
 pub front_before : {W : Type 0} (L : List W → Type 0) (s a b : List (LocatedToken W)) → s ≡ a ++ b
     → IsViablePrefix L (lookaheads s) → IsViablePrefix L (lookaheads a)
 front_before {W} L s a b e h =
@@ -149,7 +149,7 @@ module _ {S W K : Type 0} (table : Table S W K) (sort : S → Type 0) (start : L
       ↔ IsFirstFault L s place
   stops_at_first_fault s place = ((λ h. first_fault s h.0 place h.1), stops_there s place)
 
-  -- .. at this spot: its kind is what the table says there
+  -- at the first fault, the table reports the kind of the fault
   pub spot_of : (s : List (LocatedToken W)) (place : ℕ) (f : IsFirstFault L s place) → (top : S) × (others : List S)
       × (k : K) × Reaches table start f.before (top ∷ others) × (table top f.at.lookahead ≡ Err k)
       × (run table start s ≡ stops k place)

@@ -56,7 +56,7 @@ module _ {C T : Type 0} (nodes : Nodes C T) (looks : AsksChildrenAlone nodes) wh
     cell_same c b = looks (said_at nodes (old ++ rest)) (said_at nodes old) c
         (λ k l. place_same k (omega (arith, b, l)))
 
-    -- .. and so do many
+    -- cells with their children in the column say what they said
     pub said_same : (cs : List C) → AreBefore nodes (length old) cs
         → said_by nodes (old ++ rest) cs ≡ said_by nodes old cs
     said_same [] b = refl

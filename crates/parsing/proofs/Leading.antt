@@ -31,7 +31,7 @@ leads_more {S} table (w ∷ ws) (y ∷ ys) zs b h =
     let P : List S → Type 0 = λ l. Leads table l ws (zs ++ b) in
     (h.0, h.1, subst P (append_assoc h.0 ys b) (leads_more table ws (h.0 ++ ys) zs b h.2))
 
--- .. of which each has its own where nothing is left
+-- if symbols and those after them leave nothing, the lookaheads split into those of each
 pub leads_apart : {S W K : Type 0} (table : Table S W K) (ws : List W) (ys b : List S) → Leads table (ys ++ b) ws []
     → (u v : List W) × (ws ≡ u ++ v) × Leads table ys u [] × Leads table b v []
 leads_apart table ws [] b h = ([], ws, refl, refl, h)

@@ -58,7 +58,7 @@ pub reaches_once : {S W K : Type 0} (table : Table S W K) (s : List (LocatedToke
     → Reaches table ys s zs → Reaches table ys s ws → zs ≡ ws
 reaches_once table s ys zs ws h g = leads_same table (lookaheads s) ys zs ws h g
 
--- .. by their lookaheads
+-- what tokens reach depends only on their lookaheads
 pub reaches_alike : {S W K : Type 0} (table : Table S W K) (s r : List (LocatedToken W)) (ys zs : List S)
     → lookaheads s ≡ lookaheads r → Reaches table ys s zs → Reaches table ys r zs
 reaches_alike {S} {W} table s r ys zs e h = let P : List W → Type 0 = λ l. Leads table ys l zs in subst P e h
@@ -71,7 +71,7 @@ reaches_keeps table sort c (t ∷ s) [] zs a h = absurd h
 reaches_keeps table sort c (t ∷ s) (y ∷ ys) zs a h = reaches_keeps table sort c s (h.0 ++ ys) zs
     (all_append sort h.0 ys (c.kept y t.lookahead h.0 a.0 h.1) a.1) h.2
 
--- .. and some tokens complete them all
+-- some tokens complete all symbols of a sort that is complete
 pub completes : {S W K : Type 0} (table : Table S W K) (sort : S → Type 0) → IsComplete table sort → (ys : List S)
     → AllAre sort ys → (u : List (LocatedToken W)) × (run table ys u ≡ passes [])
 completes table sort c [] a = ([], refl)

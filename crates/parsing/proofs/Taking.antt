@@ -2,7 +2,7 @@
 use Rattle.std.proofs.Common.{◌≡◌, ℕ, List, [], ◌∷◌, ◌++◌, Option, Some, None, Ok, refl, sym, ap, ◌∙◌, subst, append_assoc, append-nil}
 use Rattle.parsing.specs.Tables.{LocatedToken, lookaheads, Table, run, step_on}
 use Rattle.parsing.specs.Lexers.{Turns, StopsIn}
-use Rattle.parsing.specs.Steps.{Passes}
+use Rattle.parsing.specs.steps.Steps.{Passes}
 use Rattle.parsing.proofs.Lists.{lookaheads_append}
 use Rattle.parsing.proofs.Running.{run_ok}
 use Rattle.parsing.proofs.Shown.{shows_join}
@@ -75,7 +75,7 @@ module _ {S W K R I : Type 0} (table : Table S W K) (shows : R → LocatedToken 
     turned = λ more q. run_ok table y zs more t q e;
   }
 
-  -- .. that is taken already
+  -- a token that is read already
   pub passes_taken : (y : S) (zs : List S) (i : I) (t : LocatedToken W) (here : R)
       → told (t.lookahead ∷ []) (i ∷ []) → table y t.lookahead ≡ Ok zs
       → Passes table shows told (y ∷ []) zs (t ∷ []) (i ∷ []) here here

@@ -116,7 +116,7 @@ module _ {R W : Type 0} (shows : R → LocatedToken W → R → Type 0) (d : IsD
       by (inl m) = within (cut w a m.0 [] s m.1)
       by (inr m) = (m.0, sym m.1)
 
-  -- .. so it has no first fault
+  -- a whole text has no first fault
   pub whole_no_fault : EndsAlone L → (old x y : R) (w a : List (LocatedToken W)) (s : LocatedToken W)
       → ShowsAll shows old w x → L (lookaheads w) → ShowsAll shows old (a ++ s ∷ []) y
       → IsViablePrefix L (lookaheads a) → (L (lookaheads a) → ⊥) → (IsViablePrefix L (lookaheads (a ++ s ∷ [])) → ⊥) → ⊥

@@ -31,7 +31,7 @@ turns_token table shows y zs ys t old new h e = record {
   turned = λ more q. run_ok table y zs (ys ++ more) t q e ∙ ap (λ l. run table l q) (sym (append_assoc zs ys more));
 }
 
--- .. that is taken already
+-- a token that may come next, and is read already
 pub turns_taken : {S W K R : Type 0} (table : Table S W K) (shows : R → LocatedToken W → R → Type 0) (y : S)
     (zs ys : List S) (t : LocatedToken W) (r : R) → table y t.lookahead ≡ Ok zs → Turns table shows (y ∷ ys) (zs ++ ys)
     (t ∷ []) r r
@@ -87,7 +87,7 @@ turns_reads table shows ys ws old new pass h = record {
   turned = λ more q. pass more h.0 q h.2;
 }
 
--- .. also where the first of it is taken already
+-- what passes, if its first token is read already
 pub turns_reads_first : {S W K R : Type 0} (table : Table S W K) (shows : R → LocatedToken W → R → Type 0) (ys : List S)
     (ws : List W) (t : LocatedToken W) (old new : R) → Pass table ys ws → (s : List (LocatedToken W))
     → ShowsAll shows old s new → lookaheads (t ∷ s) ≡ ws → Turns table shows ys [] (t ∷ []) old new
@@ -128,7 +128,7 @@ pub stops_token : {S W K R : Type 0} (table : Table S W K) (shows : R → Locate
     → StopsIn table shows (Some (k, t.place)) (y ∷ []) [] old
 stops_token table shows k y t old new h e = (t ∷ [], new, (new, h, refl), λ more. run_err table y k more t [] e)
 
--- .. that is taken already
+-- a token that can't come next, and is read already
 pub stops_taken : {S W K R : Type 0} (table : Table S W K) (shows : R → LocatedToken W → R → Type 0) (k : K) (y : S)
     (t : LocatedToken W) (r : R) → table y t.lookahead ≡ Err k → StopsIn table shows (Some (k, t.place)) (y ∷ [])
     (t ∷ []) r

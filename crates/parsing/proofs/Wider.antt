@@ -23,7 +23,7 @@ reaches_wider narrow wide i (t ∷ s) (y ∷ ys) zs h = (
 
 module _ {S W K : Type 0} (narrow wide : Table S W K) (i : IsWider narrow wide) (sort : S → Type 0) (start : List S)
     (L : List W → Type 0) (x : IsExact wide sort start L) where
-  -- where the narrow table stops and the wide one goes on, what stands there is a front of the wider language ..
+  -- where the narrow table stops and the wide one goes on, what stands there is a front of the wider language
   pub front_wider : (s : List (LocatedToken W)) (at : LocatedToken W) (top : S) (others zs : List S)
       → Reaches narrow start s (top ∷ others) → wide top at.lookahead ≡ Ok zs
       → IsViablePrefix L (lookaheads (s ++ at ∷ []))
@@ -32,7 +32,7 @@ module _ {S W K : Type 0} (narrow wide : Table S W K) (i : IsWider narrow wide) 
       (reaches_join wide s (at ∷ []) start (top ∷ others) (zs ++ others)
       (reaches_wider narrow wide i s start (top ∷ others) h) (reaches_one wide top zs others at e))
 
-  -- .. and where the wide one stops too it is none
+  -- where both the narrow and the wide table stop, the tokens are no prefix of the wider language
   pub no_front_wider : (s : List (LocatedToken W)) (at : LocatedToken W) (top : S) (others : List S) (k : K)
       → Reaches narrow start s (top ∷ others) → wide top at.lookahead ≡ Err k
       → IsViablePrefix L (lookaheads (s ++ at ∷ [])) → ⊥

@@ -1,14 +1,15 @@
--- The laws of columns, whatever their cells say.
+-- Laws of columns, whatever their cells mean.
 use Rattle.std.specs.Prelude.{◌≡◌, ℕ, List, length, Some, slice_get}
 use Rattle.parsing.specs.Nodes.{Nodes, AsksChildrenAlone, said_at, IsColumn, AreBefore, GoesOn}
 
--- what is said at a place is what its cell says
+-- the value at an index is the value of the cell there
 abbrev pub EachPlaceSaysItsCell : Type 0 → Type 0 → Type 0
 EachPlaceSaysItsCell C T =
     (nodes : Nodes C T) → AsksChildrenAlone nodes → (column : List C) → IsColumn nodes column
     → (i : ℕ) (c : C) → slice_get column i ≡ Some c → said_at nodes column i ≡ nodes.says (said_at nodes column) c
 
--- pending cells, whose children stand in the column, say the same once they stand there, and it says what it said
+-- Pending cells whose children are in the column keep their values when they are appended, and the values in
+-- the column don't change.
 abbrev pub ColumnsGoOn : Type 0 → Type 0 → Type 0
 ColumnsGoOn C T =
     (nodes : Nodes C T) → AsksChildrenAlone nodes → (old cs : List C) → IsColumn nodes old

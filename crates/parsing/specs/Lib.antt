@@ -2,11 +2,8 @@ pub mod Reading
 pub mod LexingLaws
 pub mod Tables
 pub mod Lexers
-pub mod Steps
 pub mod Languages
 pub mod PredictiveLaws
-pub mod Cells
-pub mod Closing
-pub mod Gaps
 pub mod Nodes
 pub mod ColumnLaws
+pub mod steps

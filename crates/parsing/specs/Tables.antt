@@ -1,7 +1,7 @@
--- What may stand next, by a stack of symbols that are still to come.
+-- Predictive tables: what may come next, given a stack of symbols that are still expected.
 use Rattle.std.specs.Prelude.{ℕ, List, [], ◌∷◌, ◌++◌, Result, Ok, Err}
 
--- what stands in a text, and how many bytes come before it
+-- a lookahead of a text, and the number of bytes before it
 pub record LocatedToken (W : Type 0) : Type 0 where
   pub lookahead : W
   pub place : ℕ
@@ -10,11 +10,12 @@ abbrev pub lookaheads : {W : Type 0} → List (LocatedToken W) → List W
 lookaheads [] = []
 lookaheads (t ∷ s) = t.lookahead ∷ lookaheads s
 
--- what is to come in the place of a symbol behind what stands there, or a fault
+-- the symbols that replace a symbol once this lookahead is read, or a fault
 abbrev pub Table : Type 0 → Type 0 → Type 0 → Type 0
 Table S W K = S → W → Result (List S) K
 
--- what was to come stood, and this is behind it; or a fault; or the tokens don't suffice
+-- all expected symbols were matched, and these tokens follow; or a fault at a byte offset; or there are too few
+-- tokens
 pub data Outcome (W K : Type 0) : Type 0 where
   passes : List (LocatedToken W) → Outcome W K
   stops : K → ℕ → Outcome W K

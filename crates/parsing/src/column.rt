@@ -1,4 +1,4 @@
-//! A column of cells, and the cells of the lists that are still open, in one buffer.
+//! A column of cells and the pending cells of the lists that are still open, in one buffer.
 
 ghost use Rattle.std.specs.Prelude.{
   ◌≡◌,
@@ -17,47 +17,47 @@ ghost use Rattle.std.specs.Prelude.{
   MatchResult,
 };
 ghost use Rattle.std.specs.List.{copy_within};
-ghost use Rattle.parsing.specs.Cells.{Cells};
-ghost use Rattle.parsing.specs.Closing.{Closes};
-ghost use Rattle.parsing.specs.Gaps.{Frees};
+ghost use Rattle.parsing.specs.steps.Cells.{Cells};
+ghost use Rattle.parsing.specs.steps.Closing.{Closes};
+ghost use Rattle.parsing.specs.steps.Gaps.{Frees};
 
 use std::alloc::{AllocError, Global};
 use std::marker::Model;
 
-/// So many free cells are made at once, or more.
+/// The least number of free cells that a full buffer gets at once, unless its block has fewer left.
 const STEP: usize = 256;
 
-/// So many cells are moved at a time, at most: few enough to be copied by vectors.
+/// The greatest number of cells that are moved at a time: few enough to be copied by vectors.
 const PIECE: usize = 64;
 
-/// So many cells of a column, one behind another.
+/// A run of adjacent cells of a column.
 #[derive(Clone, Copy, Debug, PartialEq, Eq)]
 pub struct Run {
-    /// The index of the first.
+    /// The index of the first cell.
     pub first: usize,
-    /// How many they are.
+    /// The number of cells.
     pub count: usize,
 }
 
-/// A column of cells that grows at its end, and a stack of pending cells that are moved there list
-/// by list.
+/// A column of cells that grows at its end, and a stack of pending cells that move to the column
+/// list by list.
 ///
-/// A reader of trees pushes the cell of each child of a list that is open, and at the list's end
-/// closes it: its children then stand in the column side by side, before their parent's cell, which
-/// is the next to be pushed. Column and stack share one buffer, the column from its front and the
-/// stack downwards from its end, so that no cell is ever held twice.
+/// A reader of trees pushes the cell of each child of an open list, and closes the list at its end.
+/// The children are then adjacent in the column, before their parent's cell, which is pushed next.
+/// Column and stack share one buffer: the column grows from its start, and the stack from its end
+/// downwards. So no cell is ever held twice.
 #[derive(Drop)]
 pub struct Column<C: Copy> {
     cells: Vec<C>,
-    // How many cells stand in the column.
+    // The number of cells in the column.
     len: usize,
-    // Where the top of the stack is: the cells between are free.
+    // The index of the top of the stack. The cells from `len` up to it are free.
     top: usize,
 }
 
 impl<C: Copy> Model for Column<C> {
     ghost use Rattle.std.specs.Prelude.{◌≤◌, length, take, drop, reverse};
-    ghost use Rattle.parsing.specs.Cells.{Cells};
+    ghost use Rattle.parsing.specs.steps.Cells.{Cells};
 
     ghost Value = { Cells C };
 
@@ -69,9 +69,10 @@ impl<C: Copy> Model for Column<C> {
     ghost invariant = { λ c. (c.len ≤ c.top) × (c.top ≤ length c.cells.items) };
 }
 
-// How many free cells a full buffer gets, with so many cells that have to be moved for them: as
-// many of its block as are soon used, so that no more is touched, and enough for all moves together
-// to cost no more than a constant for each push. A block that is full grows by its own rule.
+// Returns the number of free cells that a full buffer gets if `moved` cells have to be moved for
+// them. It is at most what is left of the buffer's block, so that no more memory is touched than is
+// soon used. It is large enough that all moves together cost no more than a constant for each push.
+// A block that is full grows by its own rule.
 fn free_cells<C: Copy>(cells: &Vec<C>, moved: usize) -> usize
     ensures positive { 0 < result }
     ensures small { result < 2 ^ 63 }
@@ -85,7 +86,7 @@ fn free_cells<C: Copy>(cells: &Vec<C>, moved: usize) -> usize
     }
 }
 
-// Copies the cells from one place up to another to a third place behind them.
+// Copies the cells from index `from` up to `end` to index `to`, which is at or after `end`.
 fn copy_apart<C: Copy>(cells: &mut [C], from: usize, end: usize, to: usize)
     requires start { from ≤ end }
     requires apart { end ≤ to }
@@ -96,8 +97,8 @@ fn copy_apart<C: Copy>(cells: &mut [C], from: usize, end: usize, to: usize)
     high[..end - from].copy_from_slice(&low[from..end]);
 }
 
-// Moves the cells from one place on up by so many places, as many as stand free at the end: from
-// the last ones down, in pieces that don't overlap their new places.
+// Moves the cells from index `top` on up by `by` indices, into the free cells at the end. It moves
+// the last cells first, in pieces that don't overlap their targets.
 fn move_up<C: Copy>(cells: &mut [C], top: usize, by: usize)
     requires some { 0 < by }
     requires within { top + by ≤ length cells.old }
@@ -115,7 +116,7 @@ fn move_up<C: Copy>(cells: &mut [C], top: usize, by: usize)
     }
 }
 
-// Puts free cells before the place `top`, and answers where the cell that stood there stands then.
+// Inserts free cells before index `top`, and returns the new index of the cell that was at `top`.
 #[cold]
 #[inline(never)]
 fn widen<C: Copy>(cells: &mut Vec<C>, top: usize, filler: C) -> Result<usize, AllocError>
@@ -131,7 +132,8 @@ fn widen<C: Copy>(cells: &mut Vec<C>, top: usize, filler: C) -> Result<usize, Al
     Ok(top + free)
 }
 
-// Where the top of a stack is, once there is a free cell between it and a column.
+// Returns the index of the top of the stack, once there is a free cell between the column and the
+// stack.
 fn with_room<C: Copy>(
     cells: &mut Vec<C>,
     len: usize,
@@ -150,8 +152,8 @@ fn with_room<C: Copy>(
     widen(cells, top, filler)
 }
 
-// Copies the cells from one place up to another down to a third place, in reversed order, where
-// those that are written over end before the first that is copied.
+// Copies the cells from index `from` up to `end` down to index `to`, in reversed order. The target
+// must end at or before `from`.
 fn copy_reversed<C: Copy>(cells: &mut [C], from: usize, end: usize, to: usize)
     requires start { from ≤ end }
     requires end { end ≤ length cells.old }
@@ -166,7 +168,7 @@ fn copy_reversed<C: Copy>(cells: &mut [C], from: usize, end: usize, to: usize)
     }
 }
 
-// Moves the cells from one place up to another down to a third place, in reversed order.
+// Moves the cells from index `from` up to `end` down to index `to`, in reversed order.
 fn move_reversed<C: Copy>(cells: &mut [C], from: usize, end: usize, to: usize)
     requires start { from ≤ end }
     requires end { end ≤ length cells.old }
@@ -185,7 +187,7 @@ fn move_reversed<C: Copy>(cells: &mut [C], from: usize, end: usize, to: usize)
 }
 
 impl<C: Copy> Column<C> {
-    /// A column of no cells, and none that are pending. It takes no memory.
+    /// Returns an empty column with no pending cells. It allocates no memory.
     pub fn new(alloc: Global) -> Self
         ensures { result ≡ record { column = []; pending = [] } }
     {
@@ -196,30 +198,33 @@ impl<C: Copy> Column<C> {
         }
     }
 
-    /// Asks for room for so many more cells, in the column and on the stack together, so that
-    /// pushes needn't ask for each. `Err` says that memory has no such room; column and stack are
-    /// as they were either way, and pushes go on to ask for as much as they need.
+    /// Reserves room for `cells` more cells, in the column and on the stack together, so that
+    /// pushes needn't allocate.
+    ///
+    /// `AllocError` means that there isn't that much memory. Column and stack are unchanged either
+    /// way, and later pushes still allocate what they need.
     pub fn reserve(&mut self, cells: usize) -> Result<(), AllocError>
         ensures { self.new ≡ self.old }
     {
         self.cells.reserve(cells)
     }
 
-    /// The cells of the column, in order.
+    /// Returns the cells of the column, in order.
     pub fn column(&self) -> &[C]
         ensures { result.now ≡ self.now.column }
     {
         &self.cells[..self.len]
     }
 
-    /// How many cells are pending: a list that opens now is closed with this mark.
+    /// Returns the number of pending cells. It is the mark with which a list that opens now is
+    /// closed.
     pub fn pending_len(&self) -> usize
         ensures { result ≡ length self.now.pending }
     {
         self.cells.len() - self.top
     }
 
-    /// One more cell is pending. Where memory runs out, column and stack are as they were.
+    /// Pushes a pending cell. If memory runs out, column and stack are unchanged.
     pub fn push_pending(&mut self, cell: C) -> Result<(), AllocError>
         ensures { MatchResult result
             (λ _. self.new ≡ record self.old { pending = self.old.pending ++ cell ∷ [] })
@@ -231,8 +236,7 @@ impl<C: Copy> Column<C> {
         Ok(())
     }
 
-    /// One more cell stands in the column, at its end. Where memory runs out, column and stack are
-    /// as they were.
+    /// Appends a cell to the column. If memory runs out, column and stack are unchanged.
     pub fn push_column(&mut self, cell: C) -> Result<(), AllocError>
         ensures { MatchResult result
             (λ _. self.new ≡ record self.old { column = self.old.column ++ cell ∷ [] })
@@ -245,9 +249,8 @@ impl<C: Copy> Column<C> {
         Ok(())
     }
 
-    /// The cells that are pending behind a mark are moved to the column's end, in the order in
-    /// which they were pushed, and this is where they stand. It takes no memory, and goes over the
-    /// moved cells alone.
+    /// Moves the pending cells after `mark` to the end of the column, in the order in which they
+    /// were pushed, and returns their run. It allocates no memory, and visits only the moved cells.
     pub fn close(&mut self, mark: usize) -> Run
         requires { mark ≤ length self.old.pending }
         ensures { Closes self.old mark result self.new }
@@ -263,8 +266,8 @@ impl<C: Copy> Column<C> {
         run
     }
 
-    /// The column as what is kept of it: the cells that are pending are dropped, and what the
-    /// buffer has beyond the column is given back, as far as the allocator takes it.
+    /// Returns the cells of the column. It drops the pending cells, and gives the unused rest of
+    /// the buffer back as far as the allocator accepts it.
     pub fn into_column(self) -> Vec<C>
         ensures { result.items ≡ self.column }
     {

@@ -1,5 +1,5 @@
-//! Reading texts, whatever their tokens, symbols and cells are: token by token, by tables of what may stand
-//! next, into columns of flat cells.
+//! Tools for reading texts, whatever their tokens, symbols and cells are: token by token, by tables
+//! of what may come next, into columns of flat cells.
 #![tactic(auto)]
 
 pub mod column;

@@ -7,7 +7,7 @@ use Rattle.std.proofs.lemmas.List.{get_or-map, length-take-le, map-set}
 use Rattle.std.proofs.lemmas.Grind.{common_steps}
 use Rattle.std.proofs.lemmas.Bool.Decides.{nat_tests}
 use Rattle.population_rows.specs.Index.{place_of, some_row, dense_at, told}
-use Rattle.population_rows.specs.Noting.{earlier}
+use Rattle.population_rows.specs.steps.Noting.{earlier}
 
 earlier-or-later : (b c : Bool) (p : Option ℕ) (n : ℕ)
     → cond b (Some 0) (option_map suc (cond c (Some (earlier p n)) p))
@@ -63,7 +63,7 @@ old-there : (least : ℕ) (rows : List (Option ℕ)) (n y row : ℕ) → least �
     (cond (nat_lt y least) None (get_or rows (y - least) None))
 old-there least rows n y row le = grind (arith, nat_tests, common_steps)
 
--- .. where the row of a name is noted
+-- a list of rows after the row of a name is entered
 pub dense-more : (least : ℕ) (rows : List (Option ℕ)) (n row y : ℕ) → least ≤ n → n - least < length rows
     → dense_at least (set rows (n - least) (Some (earlier (get_or rows (n - least) None) row))) y
     ≡ cond (nat_eq n y) (Some (earlier (dense_at least rows y) row)) (dense_at least rows y)
@@ -74,7 +74,7 @@ dense-more least rows n row y le lt =
     ∙ old-there least rows n y row le
     ∙ ap (λ o. cond (nat_eq n y) (Some (earlier o row)) o) (sym (dense-seen least rows y))
 
--- .. in a place where none is told
+-- entering a row at an index where none is stored
 pub told-first : (rows : List ℕ) (place row r : ℕ) → place < length rows → r ≡ get_or rows place r → r ≡ 0
     → map told (set rows place (row + 1))
     ≡ set (map told rows) place (Some (earlier (get_or (map told rows) place None) row))

@@ -1,3 +1,2 @@
 pub mod Index
-pub mod Noting
-pub mod Rows
+pub mod steps

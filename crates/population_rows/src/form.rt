@@ -1,31 +1,31 @@
 //! Forms of instances.
 
-/// An attribute of which an instance has a value.
+/// An explicit attribute for which an instance has a parameter.
 #[derive(Drop)]
 pub struct SlotForm {
-    /// The number of its place.
+    /// The number of the explicit attribute.
     pub place: u32,
-    /// One of the instance's types redeclares it as derived.
+    /// Whether one of the instance's types redeclares it as derived.
     pub is_derived: bool,
-    /// All its declarations say OPTIONAL.
+    /// Whether all its declarations say OPTIONAL.
     pub is_optional: bool,
     /// The numbers of the data types with which types of the instance declare and redeclare it, in
     /// the order of the text.
     pub data_types: Vec<u32>,
 }
 
-/// What all instances have in common that are mapped by records of the same entities.
+/// What instances have in common if they are mapped by records of equal entities.
 #[derive(Drop)]
 pub struct Form {
     /// The numbers of their types, in the order of the text.
     pub types: Vec<u32>,
-    /// How many of these are ABSTRACT, with no other below.
+    /// The number of these types that are ABSTRACT, without a subtype among them.
     pub abstract_leaves: usize,
-    /// How many supertypes of types aren't among them.
+    /// The number of supertypes of these types that are missing among them.
     pub missing_supertypes: usize,
-    /// How many ONEOFs have two operands among them.
+    /// The number of ONEOFs that have two operands among them.
     pub broken_one_ofs: usize,
-    /// How many parameters each record has to have.
+    /// The number of parameters that each record must have.
     pub counts: Vec<usize>,
     /// The attributes of all records, in the order of their parameters.
     pub slots: Vec<SlotForm>,

@@ -24,28 +24,27 @@ ghost use Rattle.std.specs.Prelude.{
 };
 ghost use Rattle.indexmap.specs.IndexMap.{get};
 ghost use Rattle.population_rows.specs.Index.{place_of, dense_at, found, told};
-ghost use Rattle.population_rows.specs.Noting.{earlier};
+ghost use Rattle.population_rows.specs.steps.Noting.{earlier};
 
 use indexmap::IndexMap;
 use std::alloc::{AllocError, Global};
 use std::hash::RandomState;
 
-/// Where the row of each name stands. Names that are few beside their number, as those of a file
-/// whose instances are counted from 1, are found in a list; others by hashing, with keys that the
-/// author of a text doesn't know.
+/// The row of each name. If the range of the names is small compared to their count, as in a file
+/// whose instances are numbered from 1, rows are in a list. Otherwise names are hashed, with keys
+/// that the author of a text doesn't know.
 #[derive(Drop)]
 pub enum RowIndex {
-    /// By name, less the least one: the row, counted from 1, or 0 where there is none.
+    /// At each name, less the least one: the row counted from 1, or 0 if there is none.
     Dense { least: u64, rows: Vec<u32> },
     Hashed(IndexMap<u64, u32, RandomState>),
 }
 
-/// How many numbers a dense index may have for each name.
+/// The range of the names of a dense index is at most about this many times their count.
 const SPREAD: u64 = 4;
 
 impl RowIndex {
-    /// The index of these names: of each the first row, counted from 0. An error says that memory
-    /// ran out.
+    /// Returns an index that maps each name to the first row with that name, counted from 0.
     pub fn of(alloc: Global, keys: RandomState, names: &[u64]) -> Result<RowIndex, AllocError>
         requires few { length names.now < 2 ^ 32 }
         ensures { IfOk result (λ t. (y : ℕ) → found t y ≡ place_of names.now y) }
@@ -59,7 +58,7 @@ impl RowIndex {
         }
     }
 
-    /// The first row of this name, counted from 0.
+    /// Returns the first row with this name, counted from 0, if any.
     pub fn find(&self, name: u64) -> Option<u32>
         ensures { result ≡ found self.now name }
     {
@@ -70,8 +69,8 @@ impl RowIndex {
     }
 }
 
-/// The least name, and how many numbers there are from it up to the greatest, where these are few
-/// beside the names.
+/// Returns the least name and the length of the range of names, if the range is small compared to
+/// the count.
 fn dense_range(names: &[u64]) -> Option<(u64, usize)>
     requires few { length names.now < 2 ^ 32 }
     ensures { IfSome result (λ r. EachIndex names.now (λ k. (r.0 ≤ slice_index names.now k)
@@ -87,7 +86,7 @@ fn dense_range(names: &[u64]) -> Option<(u64, usize)>
     }
 }
 
-/// Notes the row of a name, unless an earlier one stands there.
+/// Enters the row at an index, unless an earlier row is there.
 fn note(rows: &mut Vec<u32>, place: usize, row: u32)
     requires within { place < length rows.now.items }
     requires few { row + 1 < 2 ^ 32 }
@@ -99,7 +98,7 @@ fn note(rows: &mut Vec<u32>, place: usize, row: u32)
     }
 }
 
-/// The first row of each name, by name less the least one.
+/// Returns the first row of each name, indexed by name less the least one.
 fn dense_rows(
     alloc: Global,
     least: u64,
@@ -119,7 +118,7 @@ fn dense_rows(
     Ok(rows)
 }
 
-/// The row of a name among rows that begin with that of the least one.
+/// Returns the row of `name` in a list whose first element belongs to the name `least`.
 fn dense_row(least: u64, rows: &[u32], name: u64) -> Option<u32>
     ensures { result ≡ dense_at least (map told rows.now) name }
 {
@@ -128,7 +127,7 @@ fn dense_row(least: u64, rows: &[u32], name: u64) -> Option<u32>
     told.checked_sub(1)
 }
 
-/// Adds the row of a name that has none.
+/// Adds the row of a name, unless the name has one.
 fn add(rows: &mut IndexMap<u64, u32, RandomState>, name: u64, row: u32) -> Result<(), AllocError>
     ensures { OnOk result ((y : ℕ) → get nat_eq rows.new y ≡ cond (nat_eq name y)
         (Some (earlier (get nat_eq rows.old y) row)) (get nat_eq rows.old y)) }
@@ -139,7 +138,7 @@ fn add(rows: &mut IndexMap<u64, u32, RandomState>, name: u64, row: u32) -> Resul
     Ok(())
 }
 
-/// The first row of each name, by hashing.
+/// Returns the first row of each name, by hashing.
 fn hashed_rows(
     alloc: Global,
     keys: RandomState,

@@ -6,15 +6,15 @@ use Rattle.std.specs.declared.cmp.Ordering.TheVariants.{Less, Equal, Greater}
 use Rattle.std.proofs.Common.{refl, sym, ◌∙◌, ap}
 use Rattle.step_values.specs.declared.normal.Normal.{Normal}
 use Rattle.step_values.specs.contracts.normal.NormalOrd.TheImpl.Laws as orders
-use Rattle.step_values.specs.ComputedAgreement.{same_each_test}
-use Rattle.step_values.specs.ComputedForms.{AreNormal, normal_eq, normal_cmp}
+use Rattle.step_values.specs.AgreementTests.{same_each_test}
+use Rattle.step_values.specs.NormalForms.{AreNormal, normal_eq, normal_cmp}
 use Rattle.step_values.specs.References.{renamed_each}
 use Rattle.step_values.specs.Values.{Values}
 use Rattle.step_values.proofs.Labelled.{same_each_labelled, same_each_renamed}
 use Rattle.step_values.proofs.NormalForms.{lists_same}
 use Rattle.step_values.proofs.Renaming.{each_renamed_itself}
-use Rattle.population_fits.specs.Named.{itself, each_by_name}
-use Rattle.population_uniqueness.specs.Keys.{same_forms}
+use Rattle.parameter_fits.specs.steps.Named.{itself, each_by_name}
+use Rattle.population_uniqueness.specs.steps.Keys.{same_forms}
 
 pub forms_agree : (vs ws : Values) (ms ns : List Normal) → AreNormal (each_by_name vs) ms → AreNormal (each_by_name ws) ns
     → same_forms ms ns ≡ same_each_test vs ws

@@ -2,24 +2,24 @@
 use Rattle.std.specs.Prelude.{◌≡◌, ℕ, zero, suc, ◌+◌, ◌&&◌, not, Bool, true, false, cond, List, [], ◌∷◌, ◌++◌, map, filter, flat_map, length, Option, None, Some, slice_get}
 use Rattle.std.proofs.Common.{refl, sym, ap, ◌∙◌, ◌<◌, arith}
 use Rattle.std.proofs.lemmas.List.Concat.{flat_map-cons}
-use Rattle.digraph.specs.Graphs.{has}
+use Rattle.graphs.specs.Graphs.{has}
 use Rattle.express_syntax.specs.Schemas.{Schema}
 use Rattle.express_syntax.specs.Profile.{Every}
-use Rattle.schema_bases.specs.Seen.{name_at}
+use Rattle.schema_underlying_types.specs.BaseViews.{name_at}
 use Rattle.conformance.specs.Populations.{Instance}
 use Rattle.step_values.specs.Values.{Values}
 use Rattle.population_rows.specs.declared.form.Form.{Form}
-use Rattle.population_layouts.proofs.Naming.{among-is}
+use Rattle.population_forms.proofs.Naming.{among-is}
 use Rattle.conformance.specs.Rules as rules
 use Rattle.conformance.specs.RuleFindings.{Breach, may_hold, breaks, breaches_of_inverse}
-use Rattle.conformance.specs.Referring.{inverse_value}
-use Rattle.schema_rules.specs.declared.inverses.InverseAttribute.{InverseAttribute}
-use Rattle.schema_rules.specs.declared.tables.RuleTables.{RuleTables}
-use Rattle.schema_rules.specs.Seen.{inverse_seen, rules_seen, IsNumberedInverse}
-use Rattle.population_typed.specs.Rows.{instance_seen}
-use Rattle.population_typed.specs.Whole.{form_among, AreNumbered}
-use Rattle.step_extent.specs.Inverses.{numbers_by, row_by}
-use Rattle.population_uniqueness.specs.Bounds.{keeps, breach_in, breaches_at}
+use Rattle.conformance.specs.Referrers.{inverse_value}
+use Rattle.schema_constraints.specs.declared.inverses.InverseAttribute.{InverseAttribute}
+use Rattle.schema_constraints.specs.declared.tables.RuleTables.{RuleTables}
+use Rattle.schema_constraints.specs.RuleViews.{inverse_seen, rules_seen, IsNumberedInverse}
+use Rattle.typed_populations.specs.Rows.{instance_seen}
+use Rattle.typed_populations.specs.PopulationTables.{form_among, AreNumbered}
+use Rattle.population_inverses.specs.steps.Inverses.{numbers_by, row_by}
+use Rattle.population_uniqueness.specs.steps.Bounds.{keeps, breach_in, breaches_at}
 
 module _ (s : Schema) (is : List Instance) (y section : ℕ) (vs : Values) where
   -- an instance of this form
@@ -86,7 +86,7 @@ module _ (s : Schema) (is : List Instance) (y section : ℕ) (vs : Values) where
             ∙ ap (λ c. map told (cond c (inverse_seen s i ∷ filter (breaks is (Seen (Some x))) (map (inverse_seen s) inverses))
             (filter (breaks is (Seen (Some x))) (map (inverse_seen s) inverses)))) (sym (one i h.0 false e))
 
-  -- .. by the number of its form
+  -- what is told by the number of a form
   pub told-of : (inverses : List InverseAttribute) → Every (IsNumberedInverse s) inverses → (forms : List Form)
       (n : Option ℕ) → Every (AreNumbered s) forms
       → breaches_at s is y inverses (row_by (map (numbers_by inverses 0) forms) n) ≡ Told (form_among forms n) inverses

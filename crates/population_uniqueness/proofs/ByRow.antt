@@ -4,17 +4,17 @@ use Rattle.std.proofs.Common.{refl, sym, ◌∙◌, ap}
 use Rattle.conformance.specs.Populations.{Instance}
 use Rattle.population_rows.specs.declared.form.Form.{Form}
 use Rattle.conformance.specs.RuleFindings.{key}
-use Rattle.schema_rules.specs.declared.uniques.UniqueRule.{UniqueRule}
-use Rattle.schema_rules.specs.Seen.{unique_seen, IsNumberedUnique}
-use Rattle.population_typed.specs.Instances.{IsInstance}
-use Rattle.population_typed.specs.Rows.{instance_seen}
-use Rattle.population_typed.specs.Seen.{population_seen}
-use Rattle.population_typed.specs.Whole.{form_among}
-use Rattle.population_typed.specs.declared.instances.InstanceRow.{InstanceRow}
-use Rattle.population_typed.specs.declared.population.Population.{Population}
-use Rattle.population_typed.proofs.Found.{kept, schema_seen}
-use Rattle.population_uniqueness.specs.Parts.{parts_by}
-use Rattle.population_uniqueness.specs.Positions.{numbers_in, positions_by, positions_among}
+use Rattle.schema_constraints.specs.declared.uniques.UniqueRule.{UniqueRule}
+use Rattle.schema_constraints.specs.RuleViews.{unique_seen, IsNumberedUnique}
+use Rattle.typed_populations.specs.steps.Instances.{IsInstance}
+use Rattle.typed_populations.specs.Rows.{instance_seen}
+use Rattle.typed_populations.specs.PopulationViews.{population_seen}
+use Rattle.typed_populations.specs.PopulationTables.{form_among}
+use Rattle.typed_populations.specs.declared.instances.InstanceRow.{InstanceRow}
+use Rattle.typed_populations.specs.declared.population.Population.{Population}
+use Rattle.typed_populations.proofs.Found.{kept, schema_seen}
+use Rattle.population_uniqueness.specs.steps.Parts.{parts_by}
+use Rattle.population_uniqueness.specs.steps.Positions.{numbers_in, positions_by, positions_among}
 use Rattle.population_uniqueness.proofs.Placed.{numbered_form, key_is, positions_found}
 
 module _ (p : Population) (row : ℕ) (x : InstanceRow) (is : IsInstance p row x) where

@@ -3,13 +3,13 @@ use Rattle.std.specs.Prelude.{◌≡◌, ℕ, ◌+◌, ◌<◌, ◌≤◌, List,
 use Rattle.std.proofs.Common.{sym, ◌∙◌, ap, subst, get_or, drop}
 use Rattle.std.proofs.lemmas.List.{append-nil}
 use Rattle.step_values.specs.declared.normal.Normal.{Normal}
-use Rattle.step_values.specs.ComputedForms.{IsNormal}
-use Rattle.step_values.specs.Slots.{nth}
+use Rattle.step_values.specs.NormalForms.{IsNormal}
+use Rattle.step_values.specs.steps.Slots.{nth}
 use Rattle.step_values.specs.Values.{Value, Values}
-use Rattle.population_fits.specs.Named.{by_name}
+use Rattle.parameter_fits.specs.steps.Named.{by_name}
 use Rattle.conformance.specs.RuleFindings.{given, with_part}
-use Rattle.population_uniqueness.specs.Parts.{parts_at}
-use Rattle.population_uniqueness.specs.Keys.{IsKey}
+use Rattle.population_uniqueness.specs.steps.Parts.{parts_at}
+use Rattle.population_uniqueness.specs.steps.Keys.{IsKey}
 use Rattle.population_uniqueness.proofs.Behind.{drop_at, drop_all, behind, in_front, behind_more}
 
 -- the normal forms of parts in front, and of those at the positions that are left, are those of a key

@@ -3,12 +3,12 @@ use Rattle.std.specs.Prelude.{◌≡◌, Bool, true, false, cond, not, ◌||◌,
 use Rattle.std.specs.List.{list_any}
 use Rattle.std.proofs.Common.{refl, sym, ◌∙◌, ap}
 use Rattle.indexmap.specs.IndexSet.{IndexSet, contains, Updates}
-use Rattle.step_values.specs.ComputedForms.{AreNormal}
+use Rattle.step_values.specs.NormalForms.{AreNormal}
 use Rattle.step_values.specs.Values.{Values}
-use Rattle.population_fits.specs.Named.{each_by_name}
+use Rattle.parameter_fits.specs.steps.Named.{each_by_name}
 use Rattle.conformance.specs.RuleFindings.{same_keys}
-use Rattle.population_uniqueness.specs.declared.met.Key.{Key}
-use Rattle.population_uniqueness.specs.Keys.{IsKey, same_parts, AreMet, Meets}
+use Rattle.population_uniqueness.specs.declared.key_lookup.Key.{Key}
+use Rattle.population_uniqueness.specs.steps.Keys.{IsKey, same_parts, AreMet, Meets}
 use Rattle.population_uniqueness.proofs.Agreeing.{forms_agree, forms_turned}
 
 not_not : (b : Bool) → not (not b) ≡ b

@@ -2,27 +2,27 @@
 use Rattle.std.specs.Prelude.{◌≡◌, ⊤, ℕ, zero, suc, ◌<◌, Bool, true, false, cond, List, [], ◌∷◌, length, map, Option, Some, None, slice_get, Vec}
 use Rattle.std.proofs.Common.{refl, ◌∙◌, ap}
 use Rattle.step_values.specs.Values.{Value, Values}
-use Rattle.step_values.specs.Slots.{nth}
-use Rattle.digraph.specs.Graphs.{has}
+use Rattle.step_values.specs.steps.Slots.{nth}
+use Rattle.graphs.specs.Graphs.{has}
 use Rattle.express_syntax.specs.Schemas.{Schema}
 use Rattle.express_syntax.specs.Profile.{Every}
-use Rattle.schema_places.specs.Places.{all_places}
-use Rattle.schema_places.proofs.Repeats.{AreOne}
-use Rattle.schema_bases.specs.Seen.{name_at}
+use Rattle.schema_explicit_attributes.specs.Places.{all_places}
+use Rattle.schema_explicit_attributes.proofs.Repeats.{AreOne}
+use Rattle.schema_underlying_types.specs.BaseViews.{name_at}
 use Rattle.population_rows.specs.declared.form.SlotForm.{SlotForm}
 use Rattle.population_rows.specs.declared.form.Form.{Form}
-use Rattle.population_layouts.proofs.Naming.{among-is}
+use Rattle.population_forms.proofs.Naming.{among-is}
 use Rattle.conformance.specs.RuleFindings.{given, with_part, parts, key}
-use Rattle.schema_rules.specs.declared.uniques.UniqueRule.{UniqueRule}
-use Rattle.schema_rules.specs.Seen.{unique_seen, IsNumberedUnique}
-use Rattle.population_typed.specs.Ordering.{picked_at, position_among}
-use Rattle.population_typed.specs.Rows.{place_at, slots_seen, instance_seen}
-use Rattle.population_typed.specs.Whole.{form_among, ArePlaced, AreNumbered}
-use Rattle.population_typed.proofs.Found.{value-at-number}
-use Rattle.population_uniqueness.specs.Positions.{numbers_in, with_position, positions_of, positions_by, if_there, positions_among}
-use Rattle.population_uniqueness.specs.Parts.{parts_by}
+use Rattle.schema_constraints.specs.declared.uniques.UniqueRule.{UniqueRule}
+use Rattle.schema_constraints.specs.RuleViews.{unique_seen, IsNumberedUnique}
+use Rattle.typed_populations.specs.ValueOrder.{picked_at, position_among}
+use Rattle.typed_populations.specs.Rows.{place_at, slots_seen, instance_seen}
+use Rattle.typed_populations.specs.PopulationTables.{form_among, ArePlaced, AreNumbered}
+use Rattle.typed_populations.proofs.Found.{value-at-number}
+use Rattle.population_uniqueness.specs.steps.Positions.{numbers_in, with_position, positions_of, positions_by, if_there, positions_among}
+use Rattle.population_uniqueness.specs.steps.Parts.{parts_by}
 
--- .. in a form, where there is one
+-- where the attributes of a rule are in a form, if there is one
 abbrev pub positions_in : UniqueRule → Option Form → Option (List ℕ)
 positions_in u None = None
 positions_in u (Some x) = positions_by u x

@@ -3,8 +3,8 @@ use Rattle.std.specs.Prelude.{◌≡◌, ℕ, ◌+◌, ◌<◌, ◌≤◌, List,
 use Rattle.std.proofs.Common.{refl, sym, ◌∙◌, ap, get_or, drop}
 use Rattle.std.proofs.lemmas.List.{append-nil}
 use Rattle.population_rows.specs.declared.form.SlotForm.{SlotForm}
-use Rattle.population_typed.specs.Ordering.{position_among}
-use Rattle.population_uniqueness.specs.Positions.{with_position, positions_of}
+use Rattle.typed_populations.specs.ValueOrder.{position_among}
+use Rattle.population_uniqueness.specs.steps.Positions.{with_position, positions_of}
 use Rattle.population_uniqueness.proofs.Behind.{drop_at, drop_all, behind, in_front, behind_more}
 
 module _ (xs : List SlotForm) (qs : List ℕ) (i : ℕ) where

@@ -7,9 +7,9 @@ use Rattle.indexmap.specs.IndexSet.{IndexSet}
 use Rattle.conformance.specs.Populations.{Instance}
 use Rattle.conformance.specs.Rules.{UniqueRule}
 use Rattle.conformance.specs.RuleFindings.{key, same_keys, repeats}
-use Rattle.population_typed.proofs.Turns.{drop-item}
-use Rattle.population_uniqueness.specs.declared.met.Key.{Key}
-use Rattle.population_uniqueness.specs.Keys.{AreMet, Meets}
+use Rattle.typed_populations.proofs.Turns.{drop-item}
+use Rattle.population_uniqueness.specs.declared.key_lookup.Key.{Key}
+use Rattle.population_uniqueness.specs.steps.Keys.{AreMet, Meets}
 use Rattle.population_uniqueness.proofs.Behind.{append_one, drop_all}
 use Rattle.population_uniqueness.proofs.Meeting.{none_met}
 
@@ -55,7 +55,7 @@ module _ {S : Type 0} (u : UniqueRule) (is : List Instance) where
           ∙ ap (λ ns. names ++ ns) (sym (left ∙ ap (λ b. names_of (cond b (x ∷ rest) rest)) e)) ∙ tells.told;
     }
 
-    -- .. and one whose key wasn't
+    -- an instance whose key wasn't met before
     pub tells_as_before : again ≡ false → TellsUpTo (row + 1) names new
     tells_as_before e = record {
       before = x ∷ tells.before;

@@ -1,4 +1,1 @@
-pub mod Parts
-pub mod Positions
-pub mod Keys
-pub mod Bounds
+pub mod steps

@@ -1,28 +1,28 @@
-//! Instances that break the bounds of inverse attributes (ISO 10303-11, 9.2.1.3).
+//! Instances that violate the bounds of inverse attributes (ISO 10303-11, 9.2.1.3).
 
 ghost use Rattle.std.specs.Prelude.{◌≡◌, ◌<◌, length, Some, IfOk, OnOk, slice_get};
 ghost use Rattle.express_syntax.specs.Profile.{Every};
 ghost use Rattle.conformance.specs.RuleFindings.{may_hold, inverse_findings};
 ghost use Rattle.schema_names.specs.Schemas.{the_schema};
-ghost use Rattle.schema_rules.specs.Findings.{IsFindingOf, AreFindingsOf};
-ghost use Rattle.schema_rules.specs.declared.finding.RuleFindingKind.TheVariants.{InverseBound};
-ghost use Rattle.schema_rules.specs.Seen.{gathering_seen, rules_seen, AreNumbered};
-ghost use Rattle.schema_rules.specs.declared.inverses.InverseAttribute.{
+ghost use Rattle.schema_constraints.specs.Findings.{IsFindingOf, AreFindingsOf};
+ghost use Rattle.schema_constraints.specs.declared.finding.RuleFindingKind.TheVariants.{InverseBound};
+ghost use Rattle.schema_constraints.specs.RuleViews.{gathering_seen, rules_seen, AreNumbered};
+ghost use Rattle.schema_constraints.specs.declared.inverses.InverseAttribute.{
   InverseAttribute as Attribute,
 };
-ghost use Rattle.population_typed.specs.Seen.{population_seen};
-ghost use Rattle.step_extent.specs.Findings.{Adds};
-ghost use Rattle.population_uniqueness.specs.Bounds.{breach, keeps, breaches_at};
+ghost use Rattle.typed_populations.specs.PopulationViews.{population_seen};
+ghost use Rattle.population_inverses.specs.steps.Findings.{Adds};
+ghost use Rattle.population_uniqueness.specs.steps.Bounds.{breach, keeps, breaches_at};
 
-use population_fits::bounds::{has_least, has_most};
-use schema_rules::finding::{RuleFinding, RuleFindingKind};
-use schema_rules::gathering::Gathering;
-use schema_rules::label::RuleLabel;
+use parameter_fits::bounds::{has_least, has_most};
+use population_inverses::extents::Extents;
+use population_inverses::inverses::{numbers_by_form, row_at};
+use schema_constraints::finding::{RuleFinding, RuleFindingKind};
+use schema_constraints::inverse_collections::Gathering;
+use schema_constraints::label::RuleLabel;
 use std::alloc::{AllocError, Global};
-use step_extent::extents::Extents;
-use step_extent::inverses::{numbers_by_form, row_at};
 
-/// Whether an inverse attribute may hold so many.
+/// Whether `gathering` allows that an inverse attribute holds `count` instances.
 fn may_hold(gathering: Gathering, count: usize) -> bool
     ensures { result ≡ may_hold (gathering_seen gathering) count }
 {
@@ -33,7 +33,8 @@ fn may_hold(gathering: Gathering, count: usize) -> bool
     }
 }
 
-/// What is found where an instance breaks the bounds of the inverse attribute of this number.
+/// Returns the finding of the instance called `name`, which violates the bounds of the inverse
+/// attribute numbered `attribute`.
 fn finding<'s>(
     extents: &Extents<'s, '_, '_, '_, '_>,
     name: u64,
@@ -55,8 +56,9 @@ fn finding<'s>(
     }
 }
 
-/// Whether the inverse attribute of this number may hold as many as it does of an instance. By
-/// attribute there is what `inverse_near` begins with.
+/// Whether the number of instances that the inverse attribute numbered `attribute` holds for the
+/// instance called `name` is within bounds. `near` has the hints that `inverse_near` takes and
+/// returns, by attribute.
 fn keeps(
     extents: &Extents<'_, '_, '_, '_, '_>,
     near: &mut [usize],
@@ -77,7 +79,7 @@ fn keeps(
     may_hold(extents.rules.inverses[attribute].gathering, value.len())
 }
 
-/// Adds what is found of an instance by the inverse attributes of these numbers.
+/// Adds the findings of the instance called `name` for the inverse attributes with these numbers.
 fn add_broken<'s>(
     extents: &Extents<'s, '_, '_, '_, '_>,
     near: &mut [usize],
@@ -101,11 +103,9 @@ fn add_broken<'s>(
     Ok(())
 }
 
-/// The instances of which an inverse attribute holds more instances than it may, or fewer, by
-/// instance in the order of the file, then by attribute in the order of the text
-/// (ISO 10303-11, 9.2.1.3).
-///
-/// `AllocError` comes where memory runs out.
+/// Returns the findings of the instances for which an inverse attribute holds too many or too few
+/// instances (ISO 10303-11, 9.2.1.3). They are in the order of the file and, for each instance, in
+/// the order of the attributes in the text.
 pub fn check_inverse<'s>(
     alloc: Global,
     extents: &Extents<'s, '_, '_, '_, '_>,

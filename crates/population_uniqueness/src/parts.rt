@@ -1,17 +1,17 @@
 //! The parts of keys.
 
 ghost use Rattle.std.specs.Prelude.{◌≡◌, IfOk};
-ghost use Rattle.step_values.specs.Slots.{nth};
+ghost use Rattle.step_values.specs.steps.Slots.{nth};
 ghost use Rattle.conformance.specs.RuleFindings.{given};
-ghost use Rattle.population_uniqueness.specs.Parts.{parts_at};
-ghost use Rattle.population_uniqueness.specs.Keys.{IsKey, forms_in};
+ghost use Rattle.population_uniqueness.specs.steps.Parts.{parts_at};
+ghost use Rattle.population_uniqueness.specs.steps.Keys.{IsKey, forms_in};
 
 use std::alloc::{AllocError, Global};
 use step_values::labels::Itself;
 use step_values::normal::{Normal, normal_form};
 use step_values::slot::{Kind, Slot, Slots};
 
-/// The value at a position, where it is neither unset nor derived.
+/// Returns the value at `position`, if there is one that is neither unset nor derived.
 fn given_at<'p, 'a>(values: &Slots<'p, 'a>, position: usize) -> Option<Slot<'p, 'a>>
     ensures { result ≡ given (nth values.now position) }
 {
@@ -24,8 +24,8 @@ fn given_at<'p, 'a>(values: &Slots<'p, 'a>, position: usize) -> Option<Slot<'p, 
     }
 }
 
-/// The normal forms of the values at these positions, in turn; none where one of them is unset or
-/// derived.
+/// Returns the normal forms of the values at `positions`, in order; `None` if one of them is
+/// missing, unset or derived.
 pub(crate) fn parts_at<'p, 'a: 'c, 'c>(
     alloc: Global,
     values: &Slots<'p, 'a>,

@@ -1,25 +1,25 @@
-//! Where the parts of keys stand among the values of instances, by form.
+//! The positions of the parts of keys among the values of instances, by form.
 
 ghost use Rattle.std.specs.Prelude.{◌≡◌, IfOk, IfSome, map, option_copied};
-ghost use Rattle.form_positions.specs.Positions.{ArePositions};
+ghost use Rattle.population_rows.specs.steps.Positions.{ArePositions};
 ghost use Rattle.population_rows.specs.Index.{found};
-ghost use Rattle.population_typed.specs.Ordering.{position_among};
-ghost use Rattle.population_uniqueness.specs.Positions.{
+ghost use Rattle.typed_populations.specs.ValueOrder.{position_among};
+ghost use Rattle.population_uniqueness.specs.steps.Positions.{
   numbers_in,
   positions_of,
   positions_by,
   positions_among,
 };
 
-use form_positions::positions::{FEW, positions};
 use population_rows::form::{Form, SlotForm};
 use population_rows::index::RowIndex;
-use population_typed::reading::position_of;
-use schema_rules::uniques::UniqueRule;
+use population_rows::positions::{FEW, positions};
+use schema_constraints::uniques::UniqueRule;
 use std::alloc::{AllocError, Global};
 use std::hash::RandomState;
+use typed_populations::accessors::position_of;
 
-/// Where the attribute of a place stands, by an index.
+/// Returns the position of the explicit attribute numbered `place`, which `index` finds, if any.
 fn indexed(index: &RowIndex, place: u32) -> Option<usize>
     ensures { result ≡ found index.now place }
 {
@@ -29,8 +29,8 @@ fn indexed(index: &RowIndex, place: u32) -> Option<usize>
     }
 }
 
-/// Where the attribute of a place stands among these: by the index where there is one, else one by
-/// one.
+/// Returns the position of the explicit attribute numbered `place` among `slots`, if any. Uses
+/// `index` if there is one, otherwise searches `slots`.
 fn position_in(slots: &[SlotForm], index: Option<&RowIndex>, place: u32) -> Option<usize>
     requires { IfSome index (λ t. ArePositions slots.now t.now) }
     ensures { result ≡ position_among slots.now place }
@@ -41,7 +41,8 @@ fn position_in(slots: &[SlotForm], index: Option<&RowIndex>, place: u32) -> Opti
     }
 }
 
-/// Where the attributes of these places stand, in turn; none where one of them doesn't.
+/// Returns the positions of the explicit attributes numbered `places`, in order; `None` if one
+/// isn't among `slots`. Uses `index` if there is one.
 fn positions_in_turn(
     alloc: Global,
     slots: &[SlotForm],
@@ -61,7 +62,8 @@ fn positions_in_turn(
     Ok(Some(found))
 }
 
-/// The same, by an index where the places are many.
+/// Returns the positions of the explicit attributes numbered `places`, in order; `None` if one
+/// isn't among `slots`. Builds an index if there are more than `FEW` places.
 fn positions_of(
     alloc: Global,
     keys: RandomState,
@@ -77,8 +79,8 @@ fn positions_of(
     positions_in_turn(alloc, slots, Some(&index), places)
 }
 
-/// Where the attributes of a rule stand among those of instances of a form; none where these have
-/// no key.
+/// Returns the positions of the attributes of `rule` in `form`; `None` if instances of the form
+/// have no key.
 fn positions_in(
     alloc: Global,
     keys: RandomState,
@@ -93,7 +95,8 @@ fn positions_in(
     positions_of(alloc, keys, &form.slots, &rule.places)
 }
 
-/// The same by form. Places are hashed by these keys.
+/// Returns, for each of `forms`, the positions of the attributes of `rule`; `None` if instances of
+/// the form have no key. Attributes are hashed by `keys`.
 pub(crate) fn positions_by_form(
     alloc: Global,
     keys: RandomState,
@@ -109,7 +112,8 @@ pub(crate) fn positions_by_form(
     Ok(all)
 }
 
-/// Those of the form of a number; none where instances of it have no key, or there is no such form.
+/// Returns the positions for the form with this number; `None` if there is no such form or its
+/// instances have no key.
 pub(crate) fn positions_at(all: &[Option<Vec<usize>>], form: Option<u32>) -> Option<&Vec<usize>>
     ensures { option_copied result ≡ positions_among all.now form }
 {

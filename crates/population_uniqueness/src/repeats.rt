@@ -1,25 +1,25 @@
-//! The instances that break a uniqueness rule (ISO 10303-11, 9.2.2.1).
+//! The instances that violate a uniqueness rule (ISO 10303-11, 9.2.2.1).
 
 ghost use Rattle.std.specs.Prelude.{◌≡◌, [], map, IfOk};
 ghost use Rattle.conformance.specs.RuleFindings.{repeats};
 ghost use Rattle.schema_names.specs.Schemas.{the_schema};
-ghost use Rattle.schema_rules.specs.Seen.{unique_seen, IsNumberedUnique};
-ghost use Rattle.population_typed.specs.Seen.{population_seen};
+ghost use Rattle.schema_constraints.specs.RuleViews.{unique_seen, IsNumberedUnique};
+ghost use Rattle.typed_populations.specs.PopulationViews.{population_seen};
 
-use crate::met::meets_again;
+use crate::key_lookup::meets_again;
 use crate::positions::{positions_at, positions_by_form};
 use indexmap::IndexSet;
-use population_typed::population::Population;
-use schema_rules::uniques::UniqueRule;
+use schema_constraints::uniques::UniqueRule;
 use std::alloc::{AllocError, Global};
 use std::hash::RandomState;
+use typed_populations::population::Population;
 
-/// The names of the instances that have the key of an earlier one, in the order of the file
-/// (ISO 10303-11, 9.2.2.1). An instance has a key where the rule's entity is among its types and
-/// none of its values of the attributes that the rule names is unset or derived.
+/// Returns the names of the instances with the key of an earlier instance, in the order of the file
+/// (ISO 10303-11, 9.2.2.1). An instance has a key if the rule's entity is among its types, and none
+/// of its values of the attributes that the rule names is unset or derived.
 ///
-/// Keys are hashed by these numbers. It takes time by the number of instances and the size of
-/// these values. `AllocError` comes where memory runs out.
+/// The keys of instances are hashed by `keys`. The time depends on the number of instances and the
+/// size of these values.
 pub fn repeats(
     alloc: Global,
     keys: RandomState,

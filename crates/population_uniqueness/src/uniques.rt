@@ -1,32 +1,32 @@
-//! Instances that break uniqueness rules (ISO 10303-11, 9.2.2.1).
+//! Instances that violate uniqueness rules (ISO 10303-11, 9.2.2.1).
 
 ghost use Rattle.std.specs.Prelude.{◌≡◌, map, IfOk, OnOk};
 ghost use Rattle.conformance.specs.RuleFindings.{unique_findings, breaches_of_unique};
 ghost use Rattle.schema_semantics.specs.Names.{Name};
 ghost use Rattle.schema_semantics.specs.Parts.{dotted};
 ghost use Rattle.schema_names.specs.Schemas.{the_schema};
-ghost use Rattle.schema_parts.specs.Adding.{said};
-ghost use Rattle.schema_rules.specs.Findings.{AreFindingsOf};
-ghost use Rattle.schema_rules.specs.declared.finding.RuleFindingKind.TheVariants.{UniqueBroken};
-ghost use Rattle.schema_rules.specs.Seen.{rules_seen, unique_seen, IsNumberedUnique, AreNumbered};
-ghost use Rattle.population_typed.specs.Seen.{population_seen};
-ghost use Rattle.step_extent.specs.Findings.{Adds};
+ghost use Rattle.schema_unchecked_declarations.specs.UncheckedLists.{label_name};
+ghost use Rattle.schema_constraints.specs.Findings.{AreFindingsOf};
+ghost use Rattle.schema_constraints.specs.declared.finding.RuleFindingKind.TheVariants.{UniqueBroken};
+ghost use Rattle.schema_constraints.specs.RuleViews.{rules_seen, unique_seen, IsNumberedUnique, AreNumbered};
+ghost use Rattle.typed_populations.specs.PopulationViews.{population_seen};
+ghost use Rattle.population_inverses.specs.steps.Findings.{Adds};
 
 use crate::repeats::repeats;
-use schema_parts::list::Label;
-use schema_rules::finding::{RuleFinding, RuleFindingKind};
-use schema_rules::uniques::UniqueRule;
+use population_inverses::extents::Extents;
+use schema_constraints::finding::{RuleFinding, RuleFindingKind};
+use schema_constraints::uniques::UniqueRule;
+use schema_unchecked_declarations::list::Label;
 use std::alloc::{AllocError, Global};
 use std::hash::RandomState;
-use step_extent::extents::Extents;
 
-/// Adds what is found where instances of these names break a uniqueness rule.
+/// Adds the finding of each instance in `names`, which violates the uniqueness rule `rule`.
 fn add_findings<'s>(
     findings: &mut Vec<RuleFinding<'s>>,
     rule: Label<'s>,
     names: &[u64],
 ) -> Result<(), AllocError>
-    ensures { (holder label : Name) → said rule.entry ≡ dotted holder label
+    ensures { (holder label : Name) → label_name rule.entry ≡ dotted holder label
         → OnOk result (Adds UniqueBroken
         (map (λ y. record { instance = y; holder = holder; label = label }) names.now)
         findings.old.items findings.new.items) }
@@ -41,8 +41,7 @@ fn add_findings<'s>(
     Ok(())
 }
 
-/// Adds what is found where instances break a uniqueness rule; one that is set aside isn't
-/// looked at.
+/// Adds the findings of the instances that violate `rule`, unless the rule is set aside.
 fn add_rule<'s>(
     alloc: Global,
     keys: RandomState,
@@ -64,11 +63,11 @@ fn add_rule<'s>(
     add_findings(findings, extents.label(rule.entity, rule.label), &names)
 }
 
-/// The instances that have the key of an earlier one, by rule in the order of the text, then by
-/// instance in the order of the file (ISO 10303-11, 9.2.2.1).
+/// Returns the findings of the instances that have the key of an earlier instance, by rule in the
+/// order of the text, then in the order of the file (ISO 10303-11, 9.2.2.1).
 ///
-/// Keys are hashed by these numbers. For each rule it takes time by the number of instances and
-/// the size of the values that the rule names. `AllocError` comes where memory runs out.
+/// The keys of instances are hashed by `keys`. For each rule the time depends on the number of
+/// instances and the size of the values that the rule names.
 pub fn check_unique<'s>(
     alloc: Global,
     keys: RandomState,

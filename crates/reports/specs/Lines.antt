@@ -5,16 +5,16 @@ use Rattle.schema_semantics.specs.declared.unchecked.PartKind.{PartKind}
 use Rattle.schema_semantics.specs.declared.unchecked.PartKind.TheVariants as parts
 use Rattle.schema_semantics.specs.declared.unchecked.Reason.{Reason}
 use Rattle.schema_semantics.specs.declared.unchecked.Reason.TheVariants as reasons
-use Rattle.schema_parts.specs.declared.list.Unchecked.{Unchecked}
-use Rattle.schema_parts.specs.Adding.{said}
+use Rattle.schema_unchecked_declarations.specs.declared.list.Unchecked.{Unchecked}
+use Rattle.schema_unchecked_declarations.specs.UncheckedLists.{label_name}
 use Rattle.conformance.specs.declared.finding.FindingKind.{FindingKind}
 use Rattle.conformance.specs.declared.finding.FindingKind.TheVariants as findings
 use Rattle.conformance.specs.declared.finding.Finding.{Finding}
 use Rattle.conformance.specs.declared.finding.Spot.{Spot}
 use Rattle.conformance.specs.declared.finding.Spot.TheVariants.{Place, Nothing}
-use Rattle.schema_rules.specs.declared.finding.RuleFindingKind.{RuleFindingKind}
-use Rattle.schema_rules.specs.declared.finding.RuleFindingKind.TheVariants as breaches
-use Rattle.schema_rules.specs.declared.finding.RuleFinding.{RuleFinding}
+use Rattle.schema_constraints.specs.declared.finding.RuleFindingKind.{RuleFindingKind}
+use Rattle.schema_constraints.specs.declared.finding.RuleFindingKind.TheVariants as breaches
+use Rattle.schema_constraints.specs.declared.finding.RuleFinding.{RuleFinding}
 use Rattle.reports.specs.declared.report.Report.{Report}
 
 abbrev pub part_text : PartKind → List ℕ
@@ -68,7 +68,7 @@ unchecked_line u =
     codes "unchecked " ++ part_text u.kind ++ codes " " ++ string_bytes u.name ++ codes " " ++ reason_text u.reason
     ++ 10 ∷ []
 
--- the instance and the place, where something is wrong at one
+-- the instance and the number of its parameter (0 for the whole instance), for a finding at an instance
 abbrev pub spot_text : ℕ → Spot → List ℕ
 spot_text name (Place n) = codes " #" ++ decimal name ++ codes " " ++ decimal n
 spot_text name Nothing = []
@@ -76,10 +76,10 @@ spot_text name Nothing = []
 abbrev pub finding_line : Finding → List ℕ
 finding_line f = finding_text f.kind ++ spot_text f.instance f.spot ++ 10 ∷ []
 
--- the instance, and what the rule that it breaks is called
+-- the instance, and the label of the rule that it breaks
 abbrev pub rule_finding_line : RuleFinding → List ℕ
 rule_finding_line f =
-    rule_finding_text f.kind ++ codes " #" ++ decimal f.instance ++ codes " " ++ said f.rule ++ 10 ∷ []
+    rule_finding_text f.kind ++ codes " #" ++ decimal f.instance ++ codes " " ++ label_name f.rule ++ 10 ∷ []
 
 abbrev pub count_line : List ℕ → ℕ → List ℕ
 count_line word n = word ++ decimal n ++ 10 ∷ []

@@ -3,10 +3,10 @@
 ghost use Rattle.std.specs.Prelude.{◌≡◌, ◌++◌, false, codes, decimal, is_err};
 ghost use Rattle.std.specs.String.{string_bytes};
 ghost use Rattle.devices.specs.Emits.{Emits};
-ghost use Rattle.devices.specs.Prints.{Prints};
+ghost use Rattle.devices.specs.steps.Prints.{Prints};
 ghost use Rattle.reports.specs.SchemaLines.{
   fault_kind_text,
-  left_out_text,
+  left_out_schema_text,
   name_fault_text,
   schema_fault_text,
   schema_line,
@@ -16,9 +16,9 @@ use devices::device::{Sink, WriteFault};
 use devices::printer::Printer;
 use express_syntax::fault::{FaultKind, LeftOut, NameFault, SchemaFault};
 
-/// The number of a part that is left out, and its name.
+/// Returns the number and the name of an EXPRESS feature that isn't supported.
 pub fn left_out_name(part: LeftOut) -> &'static str
-    ensures { result.now ≡ left_out_text part }
+    ensures { result.now ≡ left_out_schema_text part }
 {
     match part {
         LeftOut::Use => "S8 LeftOut Use",
@@ -32,7 +32,7 @@ pub fn left_out_name(part: LeftOut) -> &'static str
     }
 }
 
-/// The number and the name of what is wrong with the text of a schema.
+/// Returns the number and the name of a fault in the text of a schema.
 pub fn fault_kind_name(kind: FaultKind) -> &'static str
     ensures { result.now ≡ fault_kind_text kind }
 {
@@ -44,7 +44,7 @@ pub fn fault_kind_name(kind: FaultKind) -> &'static str
     }
 }
 
-/// The number and the name of what is wrong with a name of a schema.
+/// Returns the number and the name of a fault of a name in a schema.
 pub fn name_fault_name(kind: NameFault) -> &'static str
     ensures { result.now ≡ name_fault_text kind }
 {
@@ -56,7 +56,7 @@ pub fn name_fault_name(kind: NameFault) -> &'static str
     }
 }
 
-// How many bytes come before a fault.
+// Prints the byte offset of a fault.
 fn print_place<S: Sink>(printer: &mut Printer, out: &mut S, place: u64)
     ensures { Prints S.held S.has_failed out.old out.new printer.old printer.new
         (codes " at byte " ++ decimal place) }
@@ -66,7 +66,7 @@ fn print_place<S: Sink>(printer: &mut Printer, out: &mut S, place: u64)
     printer.print(out, digits.format(place).as_bytes());
 }
 
-// What is wrong with the text.
+// Prints the line of a text fault, without its end.
 fn print_text_fault<S: Sink>(printer: &mut Printer, out: &mut S, kind: FaultKind, place: u64)
     ensures { Prints S.held S.has_failed out.old out.new printer.old printer.new
         (codes "schema: " ++ fault_kind_text kind ++ (codes " at byte " ++ decimal place)) }
@@ -76,7 +76,7 @@ fn print_text_fault<S: Sink>(printer: &mut Printer, out: &mut S, kind: FaultKind
     print_place(printer, out, place);
 }
 
-// What is wrong with a name.
+// Prints the line of a name fault, without its end.
 fn print_name_fault<S: Sink>(printer: &mut Printer, out: &mut S, kind: NameFault, name: &str)
     ensures { Prints S.held S.has_failed out.old out.new printer.old printer.new
         (codes "schema: " ++ name_fault_text kind ++ codes " " ++ name.now) }
@@ -87,7 +87,7 @@ fn print_name_fault<S: Sink>(printer: &mut Printer, out: &mut S, kind: NameFault
     printer.print(out, name.as_bytes());
 }
 
-// What the fault says.
+// Prints the line of a schema fault, without its end.
 fn print_fault<S: Sink>(printer: &mut Printer, out: &mut S, fault: &SchemaFault)
     ensures { Prints S.held S.has_failed out.old out.new printer.old printer.new
         (schema_fault_text fault.now) }
@@ -99,8 +99,10 @@ fn print_fault<S: Sink>(printer: &mut Printer, out: &mut S, fault: &SchemaFault)
     }
 }
 
-/// Prints the line of a schema's fault. `WriteFault` comes where the sink fails; a front of the
-/// line went out then.
+/// Prints the line that reports the schema fault `fault`.
+///
+/// # Errors
+/// - `WriteFault` if the sink fails; a prefix of the line was written.
 pub fn print_schema_fault<S: Sink>(out: &mut S, fault: &SchemaFault) -> Result<(), WriteFault>
     ensures emits { Emits (S.held out.old) (S.held out.new) (schema_line fault.now) result }
     ensures failed { S.has_failed out.old ≡ false → S.has_failed out.new ≡ is_err result }

@@ -1,13 +1,13 @@
-//! The words of a report.
+//! The fixed texts of a report's lines.
 
 ghost use Rattle.std.specs.Prelude.{◌≡◌};
 ghost use Rattle.reports.specs.Lines.{finding_text, part_text, reason_text, rule_finding_text};
 
 use conformance::finding::FindingKind;
-use schema_rules::finding::RuleFindingKind;
+use schema_constraints::finding::RuleFindingKind;
 use schema_semantics::unchecked::{PartKind, Reason};
 
-/// The word for a part of a schema.
+/// Returns the keyword for a kind of unchecked part of a schema.
 pub fn part_name(kind: PartKind) -> &'static str
     ensures { result.now ≡ part_text kind }
 {
@@ -28,7 +28,7 @@ pub fn part_name(kind: PartKind) -> &'static str
     }
 }
 
-/// The word for the reason why a part isn't checked.
+/// Returns the text for the reason why a part isn't checked.
 pub fn reason_name(reason: Reason) -> &'static str
     ensures { result.now ≡ reason_text reason }
 {
@@ -42,7 +42,7 @@ pub fn reason_name(reason: Reason) -> &'static str
     }
 }
 
-/// The number and the name of what is wrong.
+/// Returns the number and the name of a kind of finding.
 pub fn finding_name(kind: FindingKind) -> &'static str
     ensures { result.now ≡ finding_text kind }
 {
@@ -66,7 +66,7 @@ pub fn finding_name(kind: FindingKind) -> &'static str
     }
 }
 
-/// The number and the name of what is wrong where an instance breaks a rule.
+/// Returns the number and the name of a kind of rule finding: a rule that an instance breaks.
 pub fn rule_finding_name(kind: RuleFindingKind) -> &'static str
     ensures { result.now ≡ rule_finding_text kind }
 {

@@ -17,15 +17,15 @@ use Rattle.express_syntax.specs.declared.expression.Alternative.{Alternative}
 use Rattle.express_syntax.specs.Trees.{Tree, call, comparison}
 use Rattle.express_syntax.specs.ExpressionViews.{tree_of}
 use Rattle.express_logic.specs.Data.{Datum, indeterminate, number, text, bits, element, logical, instance, typed, aggregate, is_known}
-use Rattle.express_logic.specs.Comparing.{member}
+use Rattle.express_logic.specs.Comparison.{member}
 use Rattle.conformance.specs.Operations.{bare, or_else, compared}
 use Rattle.conformance.specs.Expressions.{or_this, string_of, is_of_type}
 use Rattle.rule_evaluation.specs.declared.context.Context.{Context}
 use Rattle.rule_values.specs.declared.variables.Variable.{Variable}
-use Rattle.rule_values.specs.Forms.{is_in, is_typeof}
+use Rattle.rule_values.specs.steps.Forms.{is_in, is_typeof}
 use Rattle.express_syntax.proofs.Layers.{literal-seen, signed-seen, reference-seen, interval-seen, query-seen, nvl-seen, not-seen, conjunction-seen, disjunction-seen, comparison-seen}
 use Rattle.rule_settings.specs.Settings.{or_nothing}
-use Rattle.rule_evaluation.specs.Contexts.{MeantBy, setting_in, meaning_in, truth_in, within_in, related_in}
+use Rattle.rule_evaluation.specs.steps.Contexts.{MeantBy, setting_in, meaning_in, truth_in, within_in, related_in}
 
 module _ (c : Context) (m : MeantBy c) (vs : List Variable) where
   pub part : (ws : List Variable) (x y : Expr) (d : Datum) → x ≡ y → ws ≡ vs → d ≡ meaning_in c m ws (tree_of x)
@@ -147,7 +147,7 @@ module _ (c : Context) (m : MeantBy c) where
     other-layer s d (layer.Comparison x r y) none not never =
         seen-plain s d _ _ (ap tree_of (exprs.rolls-Comparison x r y) ∙ comparison-seen x r y) refl
 
-    -- .. any other expression
+    -- any other expression
     pub other-is : (s : Option (List Item)) (d : Datum) (e : Expr)
         → ((x : Box Expr Global) → e ≡ exprs.Parenthesized x → ⊥)
         → ((xs : Vec Expr Global) → e ≡ exprs.Aggregate xs → ⊥)

@@ -15,7 +15,7 @@ use Rattle.conformance.specs.Expressions.{item_value}
 use Rattle.schema_semantics.specs.Names.{Name}
 use Rattle.rule_evaluation.specs.declared.context.Context.{Context}
 use Rattle.rule_values.specs.declared.variables.Variable.{Variable}
-use Rattle.rule_evaluation.specs.Contexts.{MeantBy, setting_in, selected_in, item_in}
+use Rattle.rule_evaluation.specs.steps.Contexts.{MeantBy, setting_in, selected_in, item_in}
 use Rattle.express_syntax.proofs.Layers.{attribute-selected, group-selected, index-selected}
 
 module _ (c : Context) (m : MeantBy c) (vs : List Variable) (n : Name) where

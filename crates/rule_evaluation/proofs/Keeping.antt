@@ -2,7 +2,7 @@
 use Rattle.std.proofs.Common.{◌≡◌, ◌<◌, ℕ, zero, suc, true, nat_lt, ◌++◌, List, [], ◌∷◌, length, get_or, sym, subst, arith}
 use Rattle.std.proofs.lemmas.Bool.Decides.{nat_tests}
 use Rattle.express_syntax.specs.Profile.{Every}
-use Rattle.rule_evaluation.specs.declared.kept.Wanted.{Wanted}
+use Rattle.rule_evaluation.specs.declared.derived_values.Wanted.{Wanted}
 
 is-below : (i n : ℕ) → true ≡ nat_lt i n → i < n
 is-below i n h = grind (arith, nat_tests, h)

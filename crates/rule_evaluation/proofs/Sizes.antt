@@ -5,7 +5,7 @@ use Rattle.express_syntax.specs.declared.expression.Function.TheVariants as func
 use Rattle.express_logic.specs.Data.{Datum, indeterminate, number, text, bits, element, logical, instance, typed, aggregate}
 use Rattle.conformance.specs.Operations.{bare, size, queried}
 use Rattle.conformance.specs.Expressions.{of_call}
-use Rattle.rule_values.specs.Forms.{is_sizeof}
+use Rattle.rule_values.specs.steps.Forms.{is_sizeof}
 
 pub sizeof-is : (f : Function) (d : Datum) → is_sizeof f ≡ true → size (bare d) ≡ of_call f d
 sizeof-is functions.Sizeof d h = refl

@@ -13,7 +13,7 @@ use Rattle.express_logic.specs.Data.{Datum}
 use Rattle.conformance.specs.Expressions.{of_junction}
 use Rattle.rule_evaluation.specs.declared.context.Context.{Context}
 use Rattle.rule_values.specs.declared.variables.Variable.{Variable}
-use Rattle.rule_evaluation.specs.Contexts.{MeantBy, truth_in, or_all_in, selected_in}
+use Rattle.rule_evaluation.specs.steps.Contexts.{MeantBy, truth_in, or_all_in, selected_in}
 
 pub either_false : (p : Logical) → either False p ≡ p
 either_false False = refl

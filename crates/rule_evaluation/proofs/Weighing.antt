@@ -4,8 +4,8 @@ use Rattle.std.specs.Prelude.{if◌then◌else◌, Option, Some, None, slice_get
 use Rattle.std.proofs.lemmas.Bool.Decides.{nat_tests}
 use Rattle.express_syntax.specs.declared.expression.Expr.{size-Expr}
 use Rattle.std.specs.Option.{option_flatten}
-use Rattle.schema_derivations.specs.declared.formula.Formula.{Formula}
-use Rattle.rule_evaluation.specs.Weights.{weight_at, weight}
+use Rattle.schema_derived_attributes.specs.declared.formula.Formula.{Formula}
+use Rattle.rule_evaluation.specs.steps.Weights.{weight_at, weight}
 
 grows : (b c : Bool) (n : ℕ) → (b ≡ true → c ≡ true) → (if b then n else 0) ≤ (if c then n else 0)
 grows true true n h = omega arith

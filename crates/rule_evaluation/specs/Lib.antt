@@ -1,4 +1,1 @@
-pub mod Contexts
-pub mod Kept
-pub mod Weights
-pub mod Worths
+pub mod steps

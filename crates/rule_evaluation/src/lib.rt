@@ -1,13 +1,13 @@
-//! What expressions are worth at the instances of a population (ISO 10303-11, 12).
+//! Evaluation of expressions at the instances of a population (ISO 10303-11, 12).
 #![tactic(auto)]
 
 mod context;
-mod evaluate;
-mod kept;
+mod derived_values;
+mod evaluation;
 mod lists;
-mod passing;
 mod qualifiers;
 mod queries;
+mod query_elements;
 mod references;
 mod scope;
 mod types;

@@ -1,4 +1,4 @@
-//! Expressions that stand in lists: operands of AND, OR and XOR, and the elements of aggregates that are
+//! Expressions in lists: operands of AND, OR and XOR, and the elements of aggregates that are
 //! written out (ISO 10303-11, 12).
 
 ghost use Rattle.std.specs.Prelude.{IfOk};
@@ -6,12 +6,12 @@ ghost use Rattle.express_syntax.specs.ExpressionViews.{alternatives_of, trees_of
 ghost use Rattle.express_logic.specs.Views.{datum_of};
 ghost use Rattle.rule_values.specs.Parts.{holding};
 ghost use Rattle.rule_settings.specs.Settings.{IsSetting};
-ghost use Rattle.rule_evaluation.specs.Contexts.{Gives, and_all_in, or_all_in, among_each_in};
+ghost use Rattle.rule_evaluation.specs.steps.Contexts.{Gives, and_all_in, or_all_in, among_each_in};
 
 use crate::context::Context;
-use crate::evaluate::{evaluate, evaluate_truth};
+use crate::evaluation::{evaluate, evaluate_truth};
 use crate::scope::Scope;
-use express_logic::compare::equal;
+use express_logic::comparison::equal;
 use express_logic::datum::Datum;
 use express_logic::logical::{Logical, and, or};
 use express_syntax::expression::{Alternative, Expr};
@@ -19,7 +19,7 @@ use rule_values::operations::joined;
 use rule_values::part::Part;
 use std::alloc::{AllocError, Global};
 
-/// AND of a value and some expressions.
+/// Returns the AND of `first` and the values of `expressions`.
 #[cycle(evaluation)]
 #[inline(never)]
 pub(crate) fn and_all<'p, 'e, 'r, 't, 's: 'r, 'a: 'r, 'k>(
@@ -30,8 +30,10 @@ pub(crate) fn and_all<'p, 'e, 'r, 't, 's: 'r, 'a: 'r, 'k>(
     first: Logical,
 ) -> Result<Logical, AllocError>
     requires setting { IsSetting context.now.setting.now }
-    ensures { IfOk result (λ d. Gives context.now scope.old.variables.items scope.new.variables.items d
-        (λ m. and_all_in context.now m scope.old.variables.items first (trees_of expressions.now))) }
+    ensures { IfOk result (λ d. Gives context.now scope.old.variables.items
+        scope.new.variables.items d
+        (λ m. and_all_in context.now m scope.old.variables.items first
+        (trees_of expressions.now))) }
 {
     let mut value = first;
     let mut done: usize = 0;
@@ -48,7 +50,8 @@ pub(crate) fn and_all<'p, 'e, 'r, 't, 's: 'r, 'a: 'r, 'k>(
     Ok(value)
 }
 
-/// OR and XOR of a value and some terms, from left to right.
+/// Returns the result of applying OR and XOR to `first` and the terms of `alternatives`, from left
+/// to right.
 #[cycle(evaluation)]
 #[inline(never)]
 pub(crate) fn or_all<'p, 'e, 'r, 't, 's: 'r, 'a: 'r, 'k>(
@@ -59,8 +62,10 @@ pub(crate) fn or_all<'p, 'e, 'r, 't, 's: 'r, 'a: 'r, 'k>(
     first: Logical,
 ) -> Result<Logical, AllocError>
     requires setting { IsSetting context.now.setting.now }
-    ensures { IfOk result (λ d. Gives context.now scope.old.variables.items scope.new.variables.items d
-        (λ m. or_all_in context.now m scope.old.variables.items first (alternatives_of alternatives.now))) }
+    ensures { IfOk result (λ d. Gives context.now scope.old.variables.items
+        scope.new.variables.items d
+        (λ m. or_all_in context.now m scope.old.variables.items first
+        (alternatives_of alternatives.now))) }
 {
     let mut value = first;
     let mut done: usize = 0;
@@ -77,7 +82,7 @@ pub(crate) fn or_all<'p, 'e, 'r, 't, 's: 'r, 'a: 'r, 'k>(
     Ok(value)
 }
 
-/// Whether a value is equal to one of some expressions.
+/// Returns whether `value` is equal to the value of one of `expressions`, as a logical.
 #[cycle(evaluation)]
 #[inline(never)]
 pub(crate) fn among_each<'p, 'e, 'r, 't, 's: 'r, 'a: 'r, 'k>(
@@ -88,7 +93,8 @@ pub(crate) fn among_each<'p, 'e, 'r, 't, 's: 'r, 'a: 'r, 'k>(
     value: &Datum<'r, Part<'p, 'r>>,
 ) -> Result<Logical, AllocError>
     requires setting { IsSetting context.now.setting.now }
-    ensures { IfOk result (λ d. Gives context.now scope.old.variables.items scope.new.variables.items d
+    ensures { IfOk result (λ d. Gives context.now scope.old.variables.items
+        scope.new.variables.items d
         (λ m. among_each_in context.now m scope.old.variables.items (datum_of holding value.now)
         (trees_of expressions.now))) }
 {
@@ -108,8 +114,9 @@ pub(crate) fn among_each<'p, 'e, 'r, 't, 's: 'r, 'a: 'r, 'k>(
     Ok(result)
 }
 
-/// Finds what expressions want, from the one of this index on, so that all of it is computed before
-/// they are evaluated again.
+/// Evaluates `expressions` from index `first` on, only to collect the derived values that they
+/// want. So all these are evaluated before the expressions are evaluated again. Stops once enough
+/// are collected.
 #[cycle(evaluation)]
 #[inline(never)]
 pub(crate) fn want_each<'p, 'e, 'r, 't, 's: 'r, 'a: 'r, 'k>(
@@ -129,7 +136,9 @@ pub(crate) fn want_each<'p, 'e, 'r, 't, 's: 'r, 'a: 'r, 'k>(
     }
 }
 
-/// .. what terms want.
+/// Evaluates the terms of `alternatives` from index `first` on, only to collect the derived values
+/// that they want. So all these are evaluated before the terms are evaluated again. Stops once
+/// enough are collected.
 #[cycle(evaluation)]
 #[inline(never)]
 pub(crate) fn want_terms<'p, 'e, 'r, 't, 's: 'r, 'a: 'r, 'k>(

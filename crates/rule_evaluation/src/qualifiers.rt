@@ -1,4 +1,4 @@
-//! Attributes that have their values at once, and names of items.
+//! Looking up attributes and items of enumerations, without evaluating derived attributes.
 
 ghost use Rattle.std.specs.Prelude.{◌≡◌};
 ghost use Rattle.std.specs.Option.{option_map};
@@ -8,18 +8,18 @@ ghost use Rattle.conformance.specs.Expressions.{attribute_of, item_value, instan
 ghost use Rattle.conformance.specs.Operations.{bare};
 ghost use Rattle.rule_values.specs.Parts.{element_datum, holding};
 ghost use Rattle.rule_settings.specs.Settings.{IsSetting, IsFound, or_nothing};
-ghost use Rattle.rule_evaluation.specs.Contexts.{MeantBy, setting_in, worth_in, instance_of};
+ghost use Rattle.rule_evaluation.specs.steps.Contexts.{MeantBy, setting_in, worth_in, instance_of};
 
 use crate::context::Context;
 use express_logic::datum::Datum;
 use rule_settings::attributes::Found;
+use rule_values::contents::bare;
 use rule_values::element::Element;
-use rule_values::inside::bare;
 use rule_values::part::Part;
 use step_literals::literal::Word;
 
-/// Replaces a value by that of an attribute of it, where it isn't derived; what is no instance has
-/// none.
+/// Looks up the attribute called `name` of the instance `value`, and replaces `value` by its value,
+/// unless the attribute is derived. Reports that it is missing if `value` isn't an instance.
 pub(crate) fn attribute_behind<'p, 'r>(
     context: &Context<'_, '_, 'r, '_, '_, 'p, '_>,
     name: Word<'_>,
@@ -27,7 +27,8 @@ pub(crate) fn attribute_behind<'p, 'r>(
 ) -> Found
     requires setting { IsSetting context.now.setting.now }
     ensures worth { (m : MeantBy context.now)
-        → worth_in context.now m (instance_of (datum_of holding value.old)) (datum_of holding value.new)
+        → worth_in context.now m (instance_of (datum_of holding value.old))
+        (datum_of holding value.new)
         result ≡ instance_attribute (setting_in context.now m) (datum_of holding value.old)
         (capitals name.entry) }
     ensures found { IsFound context.now.setting.now result }
@@ -41,7 +42,8 @@ pub(crate) fn attribute_behind<'p, 'r>(
     }
 }
 
-/// .. of SELF as a value.
+/// Looks up the attribute called `name` of SELF, which is a value: a reference to an instance, or a
+/// typed value of one. Stores its value in `value`, unless the attribute is derived.
 #[inline(never)]
 fn attribute_of_value<'p, 'r>(
     context: &Context<'_, '_, 'r, '_, '_, 'p, '_>,
@@ -52,14 +54,16 @@ fn attribute_of_value<'p, 'r>(
     ensures worth { (m : MeantBy context.now)
         → worth_in context.now m (instance_of (bare (element_datum context.now.me)))
         (datum_of holding value.new) result
-        ≡ attribute_of (setting_in context.now m) (element_datum context.now.me) (capitals name.entry) }
+        ≡ attribute_of (setting_in context.now m) (element_datum context.now.me)
+        (capitals name.entry) }
     ensures found { IsFound context.now.setting.now result }
 {
     *value = bare(context.me.datum());
     attribute_behind(context, name, value)
 }
 
-/// .. of an attribute of SELF.
+/// Looks up the attribute called `name` of SELF, and stores its value in `value`, unless the
+/// attribute is derived.
 pub(crate) fn attribute_of_self<'p, 'r>(
     context: &Context<'_, '_, 'r, '_, '_, 'p, '_>,
     name: Word<'_>,
@@ -69,7 +73,8 @@ pub(crate) fn attribute_of_self<'p, 'r>(
     ensures worth { (m : MeantBy context.now)
         → worth_in context.now m (instance_of (bare (element_datum context.now.me)))
         (datum_of holding value.new) result
-        ≡ attribute_of (setting_in context.now m) (element_datum context.now.me) (capitals name.entry) }
+        ≡ attribute_of (setting_in context.now m) (element_datum context.now.me)
+        (capitals name.entry) }
     ensures found { IsFound context.now.setting.now result }
 {
     match context.me {
@@ -78,7 +83,9 @@ pub(crate) fn attribute_of_self<'p, 'r>(
     }
 }
 
-/// .. of the attribute that a group means.
+/// Looks up the attribute that `\entity.name` refers to, of the instance `value`, and replaces
+/// `value` by its value, unless the attribute is derived. Reports that it is missing if `value`
+/// isn't an instance.
 #[inline(never)]
 pub(crate) fn group_behind<'p, 'r>(
     context: &Context<'_, '_, 'r, '_, '_, 'p, '_>,
@@ -103,7 +110,7 @@ pub(crate) fn group_behind<'p, 'r>(
     }
 }
 
-/// The instance that a value is; 0 where it is none.
+/// Returns the name of the instance that `value` is; 0 if it isn't an instance.
 pub(crate) fn instance_of(value: &Datum<'_, Part<'_, '_>>) -> u64
     ensures { result ≡ instance_of (datum_of holding value.now) }
 {
@@ -113,7 +120,7 @@ pub(crate) fn instance_of(value: &Datum<'_, Part<'_, '_>>) -> u64
     }
 }
 
-/// The instance that SELF is as a value; 0 where it is none.
+/// Returns the name of the instance that SELF refers to as a value; 0 if it refers to none.
 #[inline(never)]
 fn instance_inside(context: &Context<'_, '_, '_, '_, '_, '_, '_>) -> u64
     ensures { result ≡ instance_of (bare (element_datum context.now.me)) }
@@ -121,7 +128,7 @@ fn instance_inside(context: &Context<'_, '_, '_, '_, '_, '_, '_>) -> u64
     instance_of(&bare(context.me.datum()))
 }
 
-/// The instance that SELF is; 0 where it is none.
+/// Returns the name of the instance that SELF is or refers to; 0 if there is none.
 pub(crate) fn self_instance(context: &Context<'_, '_, '_, '_, '_, '_, '_>) -> u64
     ensures { result ≡ instance_of (bare (element_datum context.now.me)) }
 {
@@ -131,7 +138,7 @@ pub(crate) fn self_instance(context: &Context<'_, '_, '_, '_, '_, '_, '_>) -> u6
     }
 }
 
-/// An item of an enumeration of this name.
+/// Returns the item of an enumeration called `name`; indeterminate if no enumeration has it.
 pub(crate) fn item_value<'p, 'r, 's: 'r>(
     context: &Context<'s, '_, 'r, '_, '_, 'p, '_>,
     name: Word<'s>,

@@ -1,4 +1,4 @@
-//! Queries are evaluated (ISO 10303-11, 12.6.7).
+//! Evaluation of queries (ISO 10303-11, 12.6.7).
 
 ghost use Rattle.std.specs.Prelude.{IfOk, OnOk};
 ghost use Rattle.express_syntax.specs.ExpressionViews.{capitals, tree_of};
@@ -7,16 +7,16 @@ ghost use Rattle.express_logic.specs.Holdings.{size_of};
 ghost use Rattle.conformance.specs.Operations.{bare, size};
 ghost use Rattle.rule_values.specs.Parts.{holding, element_datum, picked, whole_elements};
 ghost use Rattle.rule_settings.specs.Settings.{IsSetting};
-ghost use Rattle.rule_evaluation.specs.Contexts.{Gives, meaning_in};
-ghost use Rattle.rule_evaluation.specs.Contexts.{passes_in, filtered_in, queried_in};
+ghost use Rattle.rule_evaluation.specs.steps.Contexts.{Gives, meaning_in};
+ghost use Rattle.rule_evaluation.specs.steps.Contexts.{passes_in, filtered_in, queried_in};
 
 use crate::context::Context;
-use crate::evaluate::{evaluate, evaluate_truth};
-use crate::passing::{counted_if, keep_if};
+use crate::evaluation::{evaluate, evaluate_truth};
+use crate::query_elements::{counted_if, keep_if};
 use crate::scope::Scope;
 use express_logic::datum::{Datum, Held};
 use express_syntax::expression::Expr;
-use rule_values::inside::counted;
+use rule_values::contents::counted;
 use rule_values::operations::{is_true, strip_type};
 use rule_values::part::Part;
 use rule_values::variables::Variable;
@@ -24,7 +24,8 @@ use std::alloc::{AllocError, Global};
 use std::mem;
 use step_literals::literal::Word;
 
-/// Puts there those elements of a value at which a condition is TRUE, where it is an aggregate.
+/// Stores the elements of the value of `source` for which `condition` is TRUE in `value`;
+/// indeterminate if `source` isn't an aggregate.
 #[cycle(evaluation)]
 #[inline(never)]
 pub(crate) fn query<'p, 'e, 'r, 't, 's: 'r, 'a: 'r, 'k>(
@@ -37,8 +38,10 @@ pub(crate) fn query<'p, 'e, 'r, 't, 's: 'r, 'a: 'r, 'k>(
     value: &mut Datum<'r, Part<'p, 'r>>,
 ) -> Result<(), AllocError>
     requires setting { IsSetting context.now.setting.now }
-    ensures { OnOk result (Gives context.now scope.old.variables.items scope.new.variables.items (datum_of holding value.new)
-        (λ m. queried_in context.now m scope.old.variables.items (capitals name.entry) (tree_of condition.now)
+    ensures { OnOk result (Gives context.now scope.old.variables.items scope.new.variables.items
+        (datum_of holding value.new)
+        (λ m. queried_in context.now m scope.old.variables.items (capitals name.entry)
+        (tree_of condition.now)
         (bare (meaning_in context.now m scope.old.variables.items (tree_of source.now))))) }
 {
     evaluate(context, source, alloc, scope, value)?;
@@ -51,7 +54,8 @@ pub(crate) fn query<'p, 'e, 'r, 't, 's: 'r, 'a: 'r, 'k>(
     Ok(())
 }
 
-/// The indices, in the whole of an aggregate, of its elements at which a condition is TRUE.
+/// Returns the indices, in the whole aggregate, of the elements of `source` for which `condition`
+/// is TRUE.
 #[cycle(evaluation)]
 #[inline(never)]
 fn passing<'p, 'e, 'r, 't, 's: 'r, 'a: 'r, 'k>(
@@ -63,9 +67,11 @@ fn passing<'p, 'e, 'r, 't, 's: 'r, 'a: 'r, 'k>(
     source: &Part<'p, 'r>,
 ) -> Result<Vec<usize>, AllocError>
     requires setting { IsSetting context.now.setting.now }
-    ensures { IfOk result (λ kept. Gives context.now scope.old.variables.items scope.new.variables.items
+    ensures { IfOk result (λ kept. Gives context.now scope.old.variables.items
+        scope.new.variables.items
         (picked kept.items (whole_elements source.now))
-        (λ m. filtered_in context.now m scope.old.variables.items (capitals name.entry) (tree_of condition.now)
+        (λ m. filtered_in context.now m scope.old.variables.items (capitals name.entry)
+        (tree_of condition.now)
         (holding source.now).elements)) }
 {
     let mut kept = Vec::new(alloc);
@@ -85,7 +91,8 @@ fn passing<'p, 'e, 'r, 't, 's: 'r, 'a: 'r, 'k>(
     Ok(kept)
 }
 
-/// .. that a query keeps.
+/// Stores the number of elements that a QUERY keeps in `value`; indeterminate if `source` isn't an
+/// aggregate.
 #[cycle(evaluation)]
 #[inline(never)]
 pub(crate) fn sized_query<'p, 'e, 'r, 't, 's: 'r, 'a: 'r, 'k>(
@@ -98,8 +105,10 @@ pub(crate) fn sized_query<'p, 'e, 'r, 't, 's: 'r, 'a: 'r, 'k>(
     value: &mut Datum<'r, Part<'p, 'r>>,
 ) -> Result<(), AllocError>
     requires setting { IsSetting context.now.setting.now }
-    ensures { OnOk result (Gives context.now scope.old.variables.items scope.new.variables.items (datum_of holding value.new)
-        (λ m. size (queried_in context.now m scope.old.variables.items (capitals name.entry) (tree_of condition.now)
+    ensures { OnOk result (Gives context.now scope.old.variables.items scope.new.variables.items
+        (datum_of holding value.new)
+        (λ m. size (queried_in context.now m scope.old.variables.items (capitals name.entry)
+        (tree_of condition.now)
         (bare (meaning_in context.now m scope.old.variables.items (tree_of source.now)))))) }
 {
     evaluate(context, source, alloc, scope, value)?;
@@ -113,7 +122,7 @@ pub(crate) fn sized_query<'p, 'e, 'r, 't, 's: 'r, 'a: 'r, 'k>(
     Ok(())
 }
 
-/// How many elements of an aggregate there are at which a condition is TRUE.
+/// Returns the number of elements of `source` for which `condition` is TRUE.
 #[cycle(evaluation)]
 #[inline(never)]
 fn count_passing<'p, 'e, 'r, 't, 's: 'r, 'a: 'r, 'k>(
@@ -125,7 +134,8 @@ fn count_passing<'p, 'e, 'r, 't, 's: 'r, 'a: 'r, 'k>(
     source: &Part<'p, 'r>,
 ) -> Result<usize, AllocError>
     requires setting { IsSetting context.now.setting.now }
-    ensures { IfOk result (λ count. Gives context.now scope.old.variables.items scope.new.variables.items count
+    ensures { IfOk result (λ count. Gives context.now scope.old.variables.items
+        scope.new.variables.items count
         (λ m. size_of (filtered_in context.now m scope.old.variables.items (capitals name.entry)
         (tree_of condition.now) (holding source.now).elements))) }
 {
@@ -146,7 +156,7 @@ fn count_passing<'p, 'e, 'r, 't, 's: 'r, 'a: 'r, 'k>(
     Ok(count)
 }
 
-/// Whether a condition is TRUE at the value of a variable.
+/// Whether `condition` is TRUE with `variable`.
 #[cycle(evaluation)]
 #[inline(never)]
 fn passes<'p, 'e, 'r, 't, 's: 'r, 'a: 'r, 'k>(
@@ -157,7 +167,8 @@ fn passes<'p, 'e, 'r, 't, 's: 'r, 'a: 'r, 'k>(
     variable: Variable<'p, 'r>,
 ) -> Result<bool, AllocError>
     requires setting { IsSetting context.now.setting.now }
-    ensures { IfOk result (λ holds. Gives context.now scope.old.variables.items scope.new.variables.items holds
+    ensures { IfOk result (λ holds. Gives context.now scope.old.variables.items
+        scope.new.variables.items holds
         (λ m. passes_in context.now m scope.old.variables.items (capitals variable.entry.name)
         (tree_of condition.now) (element_datum variable.entry.value))) }
 {
@@ -174,8 +185,9 @@ fn passes<'p, 'e, 'r, 't, 's: 'r, 'a: 'r, 'k>(
     }
 }
 
-/// Finds what a condition wants at the elements behind one at which it wants something, so that all
-/// of them are computed before the condition is tried again.
+/// Evaluates `condition` for the elements of `source` after the one at index `tried`, only to
+/// collect the derived values that it wants. So all these are evaluated before the condition is
+/// evaluated again. Stops once enough are collected.
 #[cycle(evaluation)]
 #[inline(never)]
 fn want_others<'p, 'e, 'r, 't, 's: 'r, 'a: 'r, 'k>(

@@ -1,4 +1,4 @@
-//! References are evaluated: SELF or a name, with qualifiers (ISO 10303-11, 12.7).
+//! Evaluation of references: SELF or a name, with qualifiers (ISO 10303-11, 12.7).
 
 ghost use Rattle.std.specs.Prelude.{◌≡◌, ◌∷◌, [], OnOk};
 ghost use Rattle.express_syntax.specs.Trees.{reference};
@@ -8,14 +8,14 @@ ghost use Rattle.express_logic.specs.Views.{datum_of};
 ghost use Rattle.conformance.specs.Operations.{bare, indexed};
 ghost use Rattle.rule_values.specs.Parts.{holding};
 ghost use Rattle.schema_names.specs.Numbers.{HasNumber};
-ghost use Rattle.schema_bases.specs.Seen.{name_at};
+ghost use Rattle.schema_underlying_types.specs.BaseViews.{name_at};
 ghost use Rattle.rule_settings.specs.Settings.{IsSetting, IsFound, schema_in, or_nothing};
-ghost use Rattle.rule_evaluation.specs.Contexts.{Gives, worth_in, derived_in, formula_in};
-ghost use Rattle.rule_evaluation.specs.Contexts.{meaning_in, selected_in, named_in, unbound_in, item_in};
+ghost use Rattle.rule_evaluation.specs.steps.Contexts.{Gives, worth_in, derived_in, formula_in};
+ghost use Rattle.rule_evaluation.specs.steps.Contexts.{meaning_in, selected_in, named_in, unbound_in, item_in};
 
 use crate::context::Context;
-use crate::evaluate::evaluate;
-use crate::kept::Wanted;
+use crate::derived_values::Wanted;
+use crate::evaluation::evaluate;
 use crate::qualifiers::{
     attribute_behind, attribute_of_self, group_behind, instance_of, item_value, self_instance,
 };
@@ -28,13 +28,13 @@ use rule_values::indices::indexed;
 use rule_values::operations::strip_type;
 use rule_values::part::Part;
 use rule_values::variables::find;
-use schema_derivations::formula::Formula;
-use schema_sources::source::Derivation;
+use schema_attribute_sources::source::Derivation;
+use schema_derived_attributes::formula::Formula;
 use std::alloc::{AllocError, Global};
 use std::mem;
 use step_literals::literal::Word;
 
-/// Puts there what a reference means: SELF or a name, with its qualifiers.
+/// Evaluates a reference into `value`: SELF or a name, with its qualifiers.
 #[cycle(evaluation)]
 pub(crate) fn referred<'p, 'e, 'r, 't, 's: 'r, 'a: 'r, 'k>(
     context: &Context<'s, 't, 'r, 'a, 'e, 'p, 'k>,
@@ -45,7 +45,8 @@ pub(crate) fn referred<'p, 'e, 'r, 't, 's: 'r, 'a: 'r, 'k>(
     value: &mut Datum<'r, Part<'p, 'r>>,
 ) -> Result<(), AllocError>
     requires setting { IsSetting context.now.setting.now }
-    ensures { OnOk result (Gives context.now scope.old.variables.items scope.new.variables.items (datum_of holding value.new)
+    ensures { OnOk result (Gives context.now scope.old.variables.items scope.new.variables.items
+        (datum_of holding value.new)
         (λ m. meaning_in context.now m scope.old.variables.items (reference (root_of root.entry)
         (qualifiers_of qualifiers.now)))) }
 {
@@ -58,7 +59,8 @@ pub(crate) fn referred<'p, 'e, 'r, 't, 's: 'r, 'a: 'r, 'k>(
     }
 }
 
-/// Puts there what a name with qualifiers means: a variable, else an attribute of SELF, else an item.
+/// Evaluates a name with qualifiers into `value`. The name is a variable or, if there is none, an
+/// attribute of SELF or, if there is none, an item of an enumeration.
 #[cycle(evaluation)]
 fn named<'p, 'e, 'r, 't, 's: 'r, 'a: 'r, 'k>(
     context: &Context<'s, 't, 'r, 'a, 'e, 'p, 'k>,
@@ -69,7 +71,8 @@ fn named<'p, 'e, 'r, 't, 's: 'r, 'a: 'r, 'k>(
     value: &mut Datum<'r, Part<'p, 'r>>,
 ) -> Result<(), AllocError>
     requires setting { IsSetting context.now.setting.now }
-    ensures { OnOk result (Gives context.now scope.old.variables.items scope.new.variables.items (datum_of holding value.new)
+    ensures { OnOk result (Gives context.now scope.old.variables.items scope.new.variables.items
+        (datum_of holding value.new)
         (λ m. named_in context.now m scope.old.variables.items (capitals name.entry)
         (qualifiers_of qualifiers.now))) }
 {
@@ -82,7 +85,8 @@ fn named<'p, 'e, 'r, 't, 's: 'r, 'a: 'r, 'k>(
     }
 }
 
-/// Puts there what a name that is no variable means: an attribute of SELF, else an item.
+/// Evaluates a name that isn't a variable, with qualifiers, into `value`. The name is an attribute
+/// of SELF or, if there is none, an item of an enumeration.
 #[cycle(evaluation)]
 fn unbound<'p, 'e, 'r, 't, 's: 'r, 'a: 'r, 'k>(
     context: &Context<'s, 't, 'r, 'a, 'e, 'p, 'k>,
@@ -93,7 +97,8 @@ fn unbound<'p, 'e, 'r, 't, 's: 'r, 'a: 'r, 'k>(
     value: &mut Datum<'r, Part<'p, 'r>>,
 ) -> Result<(), AllocError>
     requires setting { IsSetting context.now.setting.now }
-    ensures { OnOk result (Gives context.now scope.old.variables.items scope.new.variables.items (datum_of holding value.new)
+    ensures { OnOk result (Gives context.now scope.old.variables.items scope.new.variables.items
+        (datum_of holding value.new)
         (λ m. unbound_in context.now m scope.old.variables.items (capitals name.entry)
         (qualifiers_of qualifiers.now))) }
 {
@@ -114,7 +119,9 @@ fn unbound<'p, 'e, 'r, 't, 's: 'r, 'a: 'r, 'k>(
     }
 }
 
-/// Puts an item of an enumeration there, or of one that is named before it.
+/// Evaluates a name that is neither a variable nor an attribute, with qualifiers, into `value`. It
+/// is an item of an enumeration, or the name of the enumeration that has the first qualifier as an
+/// item.
 #[cycle(evaluation)]
 #[inline(never)]
 fn item_behind<'p, 'e, 'r, 't, 's: 'r, 'a: 'r, 'k>(
@@ -126,7 +133,8 @@ fn item_behind<'p, 'e, 'r, 't, 's: 'r, 'a: 'r, 'k>(
     value: &mut Datum<'r, Part<'p, 'r>>,
 ) -> Result<(), AllocError>
     requires setting { IsSetting context.now.setting.now }
-    ensures { OnOk result (Gives context.now scope.old.variables.items scope.new.variables.items (datum_of holding value.new)
+    ensures { OnOk result (Gives context.now scope.old.variables.items scope.new.variables.items
+        (datum_of holding value.new)
         (λ m. item_in context.now m scope.old.variables.items (capitals name.entry)
         (qualifiers_of qualifiers.now))) }
 {
@@ -151,7 +159,7 @@ fn item_behind<'p, 'e, 'r, 't, 's: 'r, 'a: 'r, 'k>(
     }
 }
 
-/// Replaces a value by what qualifiers select of it, one after another.
+/// Replaces `value` by the result of applying `qualifiers`, one after the other.
 #[cycle(evaluation)]
 #[inline(never)]
 fn selected<'p, 'e, 'r, 't, 's: 'r, 'a: 'r, 'k>(
@@ -162,7 +170,8 @@ fn selected<'p, 'e, 'r, 't, 's: 'r, 'a: 'r, 'k>(
     value: &mut Datum<'r, Part<'p, 'r>>,
 ) -> Result<(), AllocError>
     requires setting { IsSetting context.now.setting.now }
-    ensures { OnOk result (Gives context.now scope.old.variables.items scope.new.variables.items (datum_of holding value.new)
+    ensures { OnOk result (Gives context.now scope.old.variables.items scope.new.variables.items
+        (datum_of holding value.new)
         (λ m. selected_in context.now m scope.old.variables.items (qualifiers_of qualifiers.now)
         (datum_of holding value.old))) }
 {
@@ -173,7 +182,7 @@ fn selected<'p, 'e, 'r, 't, 's: 'r, 'a: 'r, 'k>(
     Ok(())
 }
 
-/// Replaces a value, which is no typed one, by what one qualifier selects of it.
+/// Replaces `value`, which isn't a typed value, by the result of applying `qualifier`.
 #[cycle(evaluation)]
 #[inline(never)]
 fn select<'p, 'e, 'r, 't, 's: 'r, 'a: 'r, 'k>(
@@ -185,8 +194,10 @@ fn select<'p, 'e, 'r, 't, 's: 'r, 'a: 'r, 'k>(
 ) -> Result<(), AllocError>
     requires setting { IsSetting context.now.setting.now }
     ensures { OnOk result ((d : Worth) → datum_of holding value.old ≡ bare d
-        → Gives context.now scope.old.variables.items scope.new.variables.items (datum_of holding value.new)
-        (λ m. selected_in context.now m scope.old.variables.items (qualifiers_of (qualifier.now ∷ [])) d)) }
+        → Gives context.now scope.old.variables.items scope.new.variables.items
+        (datum_of holding value.new)
+        (λ m. selected_in context.now m scope.old.variables.items
+        (qualifiers_of (qualifier.now ∷ [])) d)) }
 {
     let instance = instance_of(value);
     match qualifier {
@@ -202,7 +213,7 @@ fn select<'p, 'e, 'r, 't, 's: 'r, 'a: 'r, 'k>(
     }
 }
 
-/// Replaces a value by its element at the index that an expression is worth.
+/// Replaces an aggregate by its element at the index that `index` evaluates to.
 #[cycle(evaluation)]
 #[inline(never)]
 fn element<'p, 'e, 'r, 't, 's: 'r, 'a: 'r, 'k>(
@@ -213,7 +224,8 @@ fn element<'p, 'e, 'r, 't, 's: 'r, 'a: 'r, 'k>(
     value: &mut Datum<'r, Part<'p, 'r>>,
 ) -> Result<(), AllocError>
     requires setting { IsSetting context.now.setting.now }
-    ensures { OnOk result (Gives context.now scope.old.variables.items scope.new.variables.items (datum_of holding value.new)
+    ensures { OnOk result (Gives context.now scope.old.variables.items scope.new.variables.items
+        (datum_of holding value.new)
         (λ m. indexed (datum_of holding value.old)
         (bare (meaning_in context.now m scope.old.variables.items (tree_of index.now))))) }
 {
@@ -224,8 +236,8 @@ fn element<'p, 'e, 'r, 't, 's: 'r, 'a: 'r, 'k>(
     Ok(())
 }
 
-/// Puts the value of an attribute of an instance there, if it isn't there yet; indeterminate where
-/// there is none.
+/// Stores the value of an attribute of `instance` in `value`, if the look-up hasn't done so;
+/// indeterminate if the attribute is missing.
 #[cycle(evaluation)]
 fn found_value<'p, 'e, 'r, 't, 's: 'r, 'a: 'r, 'k>(
     context: &Context<'s, 't, 'r, 'a, 'e, 'p, 'k>,
@@ -251,9 +263,11 @@ fn found_value<'p, 'e, 'r, 't, 's: 'r, 'a: 'r, 'k>(
     }
 }
 
-/// Puts the value of a derived attribute of an instance there; indeterminate where its rank isn't
-/// below the limit, or it is set aside. Where it isn't kept, and would be evaluated too deep, it is
-/// wanted, and there is an error.
+/// Stores the value of a derived attribute of `instance` in `value`. The value is indeterminate if
+/// the rank of the attribute isn't below the limit, or if the attribute is set aside.
+///
+/// If the value isn't cached, and `scope` doesn't let it be evaluated directly, it is added to
+/// `scope.wanted` and the function returns an error.
 #[cycle(evaluation)]
 #[inline(never)]
 fn derived<'p, 'e, 'r, 't, 's: 'r, 'a: 'r, 'k>(
@@ -292,7 +306,7 @@ fn derived<'p, 'e, 'r, 't, 's: 'r, 'a: 'r, 'k>(
     inside(alloc, context, scope, instance, formula, value)
 }
 
-/// Puts what a formula of a rank below the limit is worth at an instance there.
+/// Evaluates `formula`, whose rank is below the limit, at `instance` into `value`.
 #[cycle(evaluation)]
 #[inline(never)]
 fn inside<'p, 'e, 'r, 't, 's: 'r, 'a: 'r, 'k>(

@@ -2,37 +2,39 @@
 
 ghost use Rattle.std.specs.Prelude.{◌≡◌, []};
 
-use crate::kept::{Wanted, is_same};
+use crate::derived_values::{Wanted, is_same};
 use rule_values::variables::Variable;
 use std::alloc::{AllocError, Global};
 
-/// How many derived attributes are evaluated inside each other. Each takes the stack that its
-/// expression needs, which has at most 64 brackets.
+/// The number of derived attributes that may be evaluated inside each other. Each takes the stack
+/// that its expression needs, whose brackets are nested at most 64 deep.
 const LEVELS: u32 = 4;
 
-/// How many are evaluated inside others, before all that aren't kept are wanted: so nothing is computed
-/// over and over.
+/// The greatest number of derived attributes that are evaluated inside others. After that many, all
+/// that are inside others and aren't cached are wanted, so that nothing is evaluated over and over.
 const NESTED: u32 = 32;
 
-/// How many that are wanted are looked for at least, before those are computed.
+/// The least number of wanted derived values that may be collected before they are evaluated.
 const WANTED: usize = 1024;
 
-/// The variables of queries, the innermost last, and which derived attributes have to be computed before
-/// the expression is.
+/// The variables of queries, the innermost last, and the derived values that have to be evaluated
+/// before the expression is.
 #[derive(Drop)]
 pub(crate) struct Scope<'p, 'r> {
     pub variables: Vec<Variable<'p, 'r>>,
-    /// Those whose values aren't kept, where they would have to be evaluated too deep.
+    /// The derived values that aren't cached, and aren't evaluated directly because of `LEVELS` or
+    /// `NESTED`.
     pub wanted: Vec<Wanted>,
-    /// How many of them are looked for before they are computed.
+    /// How many wanted derived values may be collected before they are evaluated.
     room: usize,
-    /// How many were evaluated inside others.
+    /// How many derived attributes were evaluated inside others.
     nested: u32,
 }
 
 impl<'p, 'r> Scope<'p, 'r> {
-    /// No variables, and nothing wanted, where so many values are kept. About as many more are looked
-    /// for at a time, so that an expression is begun again a few times, however many it needs.
+    /// Returns a scope without variables in which nothing is wanted. `kept` is the number of cached
+    /// values: about as many may be wanted at a time, so that an expression is evaluated again only
+    /// a few times, however many derived values it needs.
     pub(crate) fn empty(alloc: Global, kept: usize) -> Scope<'p, 'r>
         ensures { result.variables.items ≡ [] }
     {
@@ -44,7 +46,8 @@ impl<'p, 'r> Scope<'p, 'r> {
         }
     }
 
-    /// Whether one more derived attribute is evaluated, inside so many others.
+    /// Whether another derived attribute is evaluated directly, inside `level` others. Counts it if
+    /// `level` isn't 0.
     pub(crate) fn enters(&mut self, level: u32) -> bool
         ensures { self.new.variables ≡ self.old.variables }
     {
@@ -58,7 +61,9 @@ impl<'p, 'r> Scope<'p, 'r> {
         true
     }
 
-    /// Notes that a derived attribute has to be computed first. What it answers ends the evaluation.
+    /// Notes that `wanted` has to be evaluated first, and returns the error that suspends the
+    /// evaluation. The error is an `AllocError` although memory need not have run out:
+    /// `self.wanted` is empty only if it has.
     pub(crate) fn want(&mut self, wanted: Wanted) -> AllocError {
         let is_noted = match self.wanted.last() {
             Some(last) => is_same(*last, wanted),
@@ -70,12 +75,12 @@ impl<'p, 'r> Scope<'p, 'r> {
         AllocError
     }
 
-    /// Whether more are looked for that are wanted.
+    /// Whether more wanted derived values may be collected.
     fn is_open(&self) -> bool {
         self.wanted.len() < self.room
     }
 
-    /// Whether more are looked for behind one that is wanted.
+    /// Whether derived values are wanted and more may be collected.
     pub(crate) fn goes_on(&self) -> bool {
         !self.wanted.is_empty() && self.is_open()
     }

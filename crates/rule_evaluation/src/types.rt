@@ -1,4 +1,4 @@
-//! Types of values, as TYPEOF gives them (ISO 10303-11, 15.25).
+//! The types of values that TYPEOF names (ISO 10303-11, 15.25).
 
 ghost use Rattle.std.specs.Prelude.{◌≡◌};
 ghost use Rattle.std.specs.Option.{option_map};
@@ -7,7 +7,7 @@ ghost use Rattle.express_logic.specs.Views.{datum_of, text_of};
 ghost use Rattle.conformance.specs.Expressions.{is_of_type};
 ghost use Rattle.rule_values.specs.Parts.{holding, capitals_of};
 ghost use Rattle.rule_settings.specs.Settings.{IsSetting, is_defined_in};
-ghost use Rattle.rule_evaluation.specs.Contexts.{MeantBy, setting_in};
+ghost use Rattle.rule_evaluation.specs.steps.Contexts.{MeantBy, setting_in};
 
 use crate::context::Context;
 use express_logic::datum::Datum;
@@ -16,7 +16,7 @@ use express_logic::strings::AnyString;
 use rule_values::part::Part;
 use step_literals::literal::Word;
 
-/// Whether a string names a type of a value, as TYPEOF gives it.
+/// Returns whether `text` names a type of `value`, as TYPEOF does; UNKNOWN if there is no text.
 pub(crate) fn is_of_type<'p, 'r>(
     context: &Context<'_, '_, 'r, '_, '_, 'p, '_>,
     text: Option<AnyString<'_>>,
@@ -36,7 +36,8 @@ pub(crate) fn is_of_type<'p, 'r>(
     }
 }
 
-/// Whether a string names a defined type, or one that it is defined by, as TYPEOF gives it.
+/// Returns whether `text` names the defined type called `name`, or one by which it is defined, as
+/// TYPEOF does; FALSE if there is no name.
 fn is_defined_by(
     context: &Context<'_, '_, '_, '_, '_, '_, '_>,
     name: Option<Word<'_>>,

@@ -1,27 +1,31 @@
-//! What an expression is worth at a value of SELF.
+//! The value of an expression for a value of SELF.
 
 ghost use Rattle.std.specs.Prelude.{◌≡◌, [], OnOk};
 ghost use Rattle.express_syntax.specs.ExpressionViews.{tree_of};
 ghost use Rattle.express_logic.specs.Views.{datum_of};
 ghost use Rattle.rule_values.specs.Parts.{element_datum, holding};
-ghost use Rattle.schema_derivations.specs.Formulas.{formula_seen};
+ghost use Rattle.schema_derived_attributes.specs.Formulas.{formula_seen};
 ghost use Rattle.rule_settings.specs.Settings.{IsSetting, Meant};
-ghost use Rattle.rule_evaluation.specs.Kept.{AreRight};
-ghost use Rattle.rule_evaluation.specs.Worths.{formula_worth, worth_at};
+ghost use Rattle.rule_evaluation.specs.steps.Kept.{AreRight};
+ghost use Rattle.rule_evaluation.specs.steps.Worths.{formula_worth, worth_at};
 
 use crate::context::Context;
-use crate::evaluate::evaluate;
-use crate::kept::{KeptValues, Wanted};
+use crate::derived_values::{KeptValues, Wanted};
+use crate::evaluation::evaluate;
 use crate::scope::Scope;
 use express_logic::datum::Datum;
 use express_syntax::expression::Expr;
 use rule_settings::setting::Setting;
 use rule_values::element::Element;
 use rule_values::part::Part;
-use schema_derivations::formula::Formula;
+use schema_derived_attributes::formula::Formula;
 use std::alloc::{AllocError, Global};
 
-/// Puts what a derived attribute of this formula is worth at an instance there, where what it wants is kept.
+/// Evaluates the formula of a derived attribute at `instance` into `value`, with the cached values
+/// `kept`.
+///
+/// An error means that memory ran out, or that `scope.wanted` holds derived values that have to be
+/// evaluated first.
 fn formula_value<'p, 'e, 'r, 't, 's: 'r, 'a: 'r>(
     alloc: Global,
     setting: &'p Setting<'s, 't, 'r, 'a, 'e, 'p>,
@@ -48,8 +52,8 @@ fn formula_value<'p, 'e, 'r, 't, 's: 'r, 'a: 'r>(
     evaluate(&context, formula.expression, alloc, scope, value)
 }
 
-/// Keeps the value of a derived attribute that is wanted, where it isn't kept; where it wants others,
-/// these are to be kept first.
+/// Evaluates and caches the derived value `wanted`, unless it is cached. If others have to be
+/// evaluated first, it is put onto the stack `waiting`, and these after it.
 fn keep_wanted<'p, 'e, 'r, 't, 's: 'r, 'a: 'r>(
     alloc: Global,
     setting: &'p Setting<'s, 't, 'r, 'a, 'e, 'p>,
@@ -81,7 +85,9 @@ fn keep_wanted<'p, 'e, 'r, 't, 's: 'r, 'a: 'r>(
     }
 }
 
-/// Has those that are wanted computed before this one; where none is, memory ran out.
+/// Puts `wanted` onto the stack `waiting`, and after it the derived values that `scope` holds,
+/// which have to be evaluated first. Fails with `stopped` if it holds none, because memory ran out
+/// then.
 fn wait_for<'p, 'r>(
     waiting: &mut Vec<Wanted>,
     scope: Scope<'p, 'r>,
@@ -99,9 +105,9 @@ fn wait_for<'p, 'r>(
     Ok(())
 }
 
-/// Keeps the values of derived attributes that are wanted, and first of those that they want.
+/// Evaluates and caches the derived values on the stack `waiting`, each after those that it wants.
 ///
-/// Each step keeps one or finds one that waits, so that for 2^64 of them there is no memory.
+/// Each step caches a value or finds one that has to wait, so memory runs out before 2^64 steps.
 fn keep_all<'p, 'e, 'r, 't, 's: 'r, 'a: 'r>(
     alloc: Global,
     setting: &'p Setting<'s, 't, 'r, 'a, 'e, 'p>,
@@ -121,13 +127,14 @@ fn keep_all<'p, 'e, 'r, 't, 's: 'r, 'a: 'r>(
     Err(AllocError)
 }
 
-/// Puts what an expression is worth at a value of SELF there, with the values of all derived attributes
-/// of ranks below the limit (ISO 10303-11, 9.2.1.2 and 12).
+/// Evaluates `expression` into `value`, with `me` as SELF and the values of all derived attributes
+/// of ranks below `limit` (ISO 10303-11, 9.2.1.2 and 12).
 ///
-/// The value of a derived attribute that others use is computed once for each instance, but for those
-/// of a few ranks, and nothing is evaluated more than a few ranks deep, so that the stack is bounded
-/// whatever the schema. An expression that needs values first is begun again when they are there.
-/// An error says that memory ran out.
+/// Derived values are evaluated directly only up to a few levels deep. All others are evaluated
+/// once for each instance and cached, and then the evaluation of the expression begins again. So
+/// the stack is bounded, whatever the schema.
+///
+/// An error means that memory ran out.
 pub fn value_at<'p, 'e, 'r, 't, 's: 'r, 'a: 'r>(
     alloc: Global,
     setting: &'p Setting<'s, 't, 'r, 'a, 'e, 'p>,

@@ -10,21 +10,21 @@ use Rattle.schema_semantics.specs.Attributes.{Place}
 use Rattle.schema_semantics.proofs.Lists.{from-flat}
 use Rattle.schema_names.specs.Numbers.{number_of, HasNumber}
 use Rattle.schema_names.proofs.Numbers.{stands-at}
-use Rattle.schema_places.specs.Places.{all_places, places_in}
-use Rattle.schema_places.proofs.Distinct.{at-among}
-use Rattle.schema_places.proofs.OwnNumbers.{own-number-of}
+use Rattle.schema_explicit_attributes.specs.Places.{all_places, places_in}
+use Rattle.schema_explicit_attributes.proofs.Distinct.{at-among}
+use Rattle.schema_explicit_attributes.proofs.OwnNumbers.{own-number-of}
 use Rattle.schema_attributes.proofs.Rows.{among-at}
 use Rattle.conformance.specs.Bases.{Domain, IsDomain, base}
 use Rattle.conformance.specs.Entities.{Entities, AreEntities}
 use Rattle.conformance.specs.Populations.{first_base}
-use Rattle.schema_bases.specs.declared.base.Base.{Base}
-use Rattle.schema_bases.specs.declared.base.Base.TheVariants.{Integer}
-use Rattle.schema_bases.specs.Seen.{type_at, base_seen}
-use Rattle.schema_bases.specs.Tables.{IsKnown, IsNumbered}
-use Rattle.schema_uses.specs.declared.uses.AttributeUse.{AttributeUse}
-use Rattle.schema_uses.specs.declared.uses.Uses.{Uses}
-use Rattle.schema_uses.specs.Uses.{HasPlace, of_place, uses_at, seen, said, AreUses}
-use Rattle.rule_names.specs.Declaring.{is_of}
+use Rattle.schema_underlying_types.specs.declared.base.Base.{Base}
+use Rattle.schema_underlying_types.specs.declared.base.Base.TheVariants.{Integer}
+use Rattle.schema_underlying_types.specs.BaseViews.{type_at, base_seen}
+use Rattle.schema_underlying_types.specs.Tables.{NamesKnownType, IsNumberedBase}
+use Rattle.schema_redeclarations.specs.declared.uses.AttributeUse.{AttributeUse}
+use Rattle.schema_redeclarations.specs.declared.uses.Uses.{Uses}
+use Rattle.schema_redeclarations.specs.Uses.{HasPlace, of_place, uses_at, seen, said, AreUses}
+use Rattle.rule_names.specs.steps.Declaring.{is_of}
 use Rattle.rule_names.specs.Tables.{IsDeclaredAs, AreDeclared}
 
 -- those that pass a test begin with the first that does
@@ -60,7 +60,7 @@ found-among test (y ∷ xs) x h = by (test y) h (found-among test xs x)
 -- what is asked by the data type of a number
 abbrev pub Says : Schema → ℕ → Base → Type 0
 Says s n b =
-    (IsKnown s (type_at s n) → (d : Domain) → IsDomain s d → base_seen s b ≡ base d (type_at s n)) × IsNumbered s b
+    (NamesKnownType s (type_at s n) → (d : Domain) → IsDomain s d → base_seen s b ≡ base d (type_at s n)) × IsNumberedBase s b
 
 -- the entity of its own places
 of-entity : (e : Name) (ns : List Name) (p : Place) → Among p (map (λ (n : Name). (e, n)) ns) → e ≡ p.0

@@ -7,8 +7,8 @@ use Rattle.std.proofs.Common.{refl, ap, sym, subst, ◌∙◌, Bor}
 use Rattle.std.proofs.lemmas.Option.{slice_get-get_or, slice_get_past}
 use Rattle.population_rows.specs.declared.index.RowIndex.{RowIndex}
 use Rattle.population_rows.specs.Index.{found, place_of}
-use Rattle.schema_uses.specs.declared.uses.AttributeUse.{AttributeUse}
-use Rattle.rule_names.specs.Declaring.{is_of, AreFirst}
+use Rattle.schema_redeclarations.specs.declared.uses.AttributeUse.{AttributeUse}
+use Rattle.rule_names.specs.steps.Declaring.{is_of, AreFirst}
 
 -- what stands at a number, where there is one
 abbrev pub at_number : List AttributeUse → Option ℕ → Option AttributeUse

@@ -13,12 +13,12 @@ use Rattle.schema_semantics.proofs.Lists.{are-fresh, first-step}
 use Rattle.schema_semantics.proofs.Supertypes.{stands}
 use Rattle.schema_names.specs.Numbers.{number_of, HasNumber, IsAt}
 use Rattle.schema_names.proofs.Numbers.{what-stands, each-number}
-use Rattle.schema_places.proofs.OwnNumbers.{own-number-of}
-use Rattle.schema_bases.specs.Seen.{name_at}
+use Rattle.schema_explicit_attributes.proofs.OwnNumbers.{own-number-of}
+use Rattle.schema_underlying_types.specs.BaseViews.{name_at}
 use Rattle.conformance.specs.Meanings.{says_type, type_names}
 use Rattle.conformance.proofs.MeaningOneness.{one_truth}
-use Rattle.schema_sources.specs.Seen.{types_seen}
-use Rattle.rule_names.specs.Naming.{type_name, types_among, says_one, says_in}
+use Rattle.schema_attribute_sources.specs.SourceViews.{types_seen}
+use Rattle.rule_names.specs.steps.Naming.{type_name, types_among, says_one, says_in}
 
 pub one_name : (m n : Name) → Some m ≡ Some n → m ≡ n
 one_name m n e = cc

@@ -17,11 +17,11 @@ use Rattle.step_literals.specs.Items.{run_items}
 use Rattle.step_literals.specs.declared.literal.items.Item.{Item}
 use Rattle.step_literals.specs.declared.literal.items.Item.TheVariants.{Code, Raw}
 use Rattle.step_literals.proofs.KeywordLemmas.{keyword_each}
-use Rattle.express_lexis.specs.Tokens.{Spells, string}
-use Rattle.express_lexis.specs.Doubled.{undoubled}
-use Rattle.express_lexis.specs.Meanings.{characters_behind, characters_of}
-use Rattle.express_logic.specs.Comparing.{same_item, same_text}
-use Rattle.express_logic.specs.Taking.{of_codes}
+use Rattle.express_lexer.specs.Tokens.{Spells, string}
+use Rattle.express_lexer.specs.DoubledApostrophes.{undoubled}
+use Rattle.express_lexer.specs.Meanings.{characters_behind, characters_of}
+use Rattle.express_logic.specs.Comparison.{same_item, same_text}
+use Rattle.express_logic.specs.steps.Taking.{of_codes}
 
 -- bytes of names and points: ASCII, no apostrophe
 abbrev pub IsPlain : List ℕ → Type 0
@@ -66,7 +66,7 @@ begins_more items more h = record {
   other = h.other;
 }
 
--- .. of a run
+-- the items of a run begin with one that isn't ASCII
 run_high : (b : ℕ) (bs : List ℕ) → is_high b ≡ true → BeginsHigh (run_items (b ∷ bs))
 run_high b bs high = by (is_utf8 (b ∷ bs)) refl
   where
@@ -94,7 +94,7 @@ run_high b bs high = by (is_utf8 (b ∷ bs)) refl
       other = λ c low. refl;
     }
 
--- .. of what a run begins
+-- so do the items that begin with those of a run
 run_then : (b : ℕ) (run bs : List ℕ) (c : ℕ) (t : Bool) → is_high b ≡ true
     → BeginsHigh (characters_behind (b ∷ run ++ c ∷ []) bs)
     → BeginsHigh (cond t (characters_behind (b ∷ run ++ c ∷ []) bs)

@@ -1,3 +1,2 @@
-pub mod Declaring
 pub mod Tables
-pub mod Naming
+pub mod steps

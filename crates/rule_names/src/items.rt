@@ -9,22 +9,22 @@ ghost use Rattle.express_syntax.specs.Views.{
 };
 ghost use Rattle.schema_semantics.specs.Faults.{IsResolved};
 ghost use Rattle.conformance.specs.Bases.{Domain, IsDomain};
-ghost use Rattle.conformance.specs.Fitting.{among};
+ghost use Rattle.conformance.specs.ParameterFits.{is_listed};
 ghost use Rattle.schema_names.specs.Schemas.{the_schema};
-ghost use Rattle.schema_bases.specs.Seen.{items_of, items_in};
+ghost use Rattle.schema_underlying_types.specs.BaseViews.{items_of, items_in};
 ghost use Rattle.conformance.specs.Meanings.{type_names, items_in as of_base};
-ghost use Rattle.rule_values.specs.Coded.{named_base};
+ghost use Rattle.rule_values.specs.TableValues.{named_base};
 ghost use Rattle.rule_values.specs.Tables.{AreValueTypes};
-ghost use Rattle.rule_names.specs.Naming.{is_type};
+ghost use Rattle.rule_names.specs.steps.Naming.{is_type};
 
 use crate::tables::SettingTables;
 use express_syntax::tree::{Declaration, Underlying};
 use rule_values::types::ValueTypes;
-use schema_bases::base::Base;
 use schema_names::names::Names;
+use schema_underlying_types::base::Base;
 use step_literals::literal::Word;
 
-/// Whether a defined type is declared.
+/// Whether `declaration` is that of a defined type.
 fn is_type(declaration: &Declaration<'_>) -> bool
     ensures { result ≡ is_type (declaration_seen declaration.now) }
 {
@@ -34,7 +34,7 @@ fn is_type(declaration: &Declaration<'_>) -> bool
     }
 }
 
-/// What stands in an enumeration; nothing where it is none.
+/// Returns the items of an enumeration; empty for any other type.
 fn items_of<'d, 'a>(underlying: &'d Underlying<'a>) -> &'d [Word<'a>]
     ensures { names_of result.now ≡ items_of (underlying_of underlying.now) }
 {
@@ -44,7 +44,7 @@ fn items_of<'d, 'a>(underlying: &'d Underlying<'a>) -> &'d [Word<'a>]
     }
 }
 
-/// The items of an enumeration; none of what is no enumeration.
+/// Returns the items of an enumeration; empty for any other declaration.
 fn items_in<'d, 'a>(declaration: &'d Declaration<'a>) -> &'d [Word<'a>]
     ensures { names_of result.now ≡ items_in (Some (declaration_seen declaration.now)) }
 {
@@ -54,21 +54,21 @@ fn items_in<'d, 'a>(declaration: &'d Declaration<'a>) -> &'d [Word<'a>]
     }
 }
 
-/// Whether a name is among some.
+/// Whether `name` is one of `names`.
 fn is_among(names: &[Word<'_>], name: Word<'_>) -> bool
-    ensures { result ≡ among (capitals name.entry) (names_of names.now) }
+    ensures { result ≡ is_listed (capitals name.entry) (names_of names.now) }
 {
     names.iter().any(|each| name == *each)
 }
 
-/// What a name stands for.
+/// Returns the underlying type of the type or entity called `name`.
 fn base_of(types: &ValueTypes<'_>, name: Word<'_>) -> Base
     ensures { result ≡ named_base types.now (capitals name.entry) }
 {
     *types.of_name(name)
 }
 
-/// Whether the defined type of this name stands for an enumeration that has an item of this name.
+/// Whether the defined type called `declared` stands for an enumeration with the item `name`.
 pub fn is_item_of(
     names: &Names<'_, '_>,
     tables: &SettingTables<'_, '_>,
@@ -78,8 +78,8 @@ pub fn is_item_of(
     requires resolved { IsResolved (the_schema names.now) }
     requires tables { AreValueTypes (the_schema names.now) tables.now.value_types }
     ensures { (d : Domain) → IsDomain (the_schema names.now) d
-        → result ≡ (among (capitals declared.entry) (type_names (the_schema names.now))
-        && among (capitals name.entry) (of_base (d.of_name (capitals declared.entry)))) }
+        → result ≡ (is_listed (capitals declared.entry) (type_names (the_schema names.now))
+        && is_listed (capitals name.entry) (of_base (d.of_name (capitals declared.entry)))) }
 {
     let Some(number) = names.find(declared) else {
         return false;

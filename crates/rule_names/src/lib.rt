@@ -1,9 +1,9 @@
-//! What is made once of a schema to evaluate its expressions, and what names and strings in these name of it
-//! (ISO 10303-11, 12, 15.25 and 8.4.1).
+//! Tables that are built once from a schema to evaluate its expressions, and what names and strings
+//! in expressions refer to (ISO 10303-11, 12, 15.25 and 8.4.1).
 #![tactic(auto)]
 
-pub mod declared;
-mod dotted;
+pub mod declared_types;
 pub mod items;
+mod qualified_names;
 pub mod tables;
 pub mod types;

@@ -1,45 +1,43 @@
-//! The tables that expressions are evaluated by.
+//! The tables by which expressions are evaluated.
 
 ghost use Rattle.std.specs.Prelude.{IfOk};
-ghost use Rattle.schema_types.specs.Made.{IsMade};
-ghost use Rattle.population_layouts.specs.Tables.{AreTables};
+ghost use Rattle.schema_types.specs.TypeTables.{IsMade};
+ghost use Rattle.population_forms.specs.steps.Tables.{AreTables};
 ghost use Rattle.rule_names.specs.Tables.{AreSettingTables};
 
-use crate::declared::declared_bases;
-use population_layouts::tables::SchemaTables;
+use crate::declared_types::declared_bases;
+use population_forms::tables::SchemaTables;
 use rule_values::types::ValueTypes;
-use schema_bases::base::Base;
+use schema_attribute_sources::sources::AttributeSources;
+use schema_constraints::inverses::InverseAttribute;
 use schema_data_types::forms::{DataTypes, data_types};
 use schema_data_types::items::Items;
-use schema_rules::inverses::InverseAttribute;
-use schema_sources::sources::AttributeSources;
+use schema_redeclarations::uses::Uses;
 use schema_types::types::ResolvedTypes;
-use schema_uses::uses::Uses;
+use schema_underlying_types::base::Base;
 use std::alloc::{AllocError, Global};
 use std::hash::RandomState;
 
-/// What expressions ask of a schema, by number.
+/// What expressions need to know of a schema, by number.
 #[derive(Drop)]
 pub struct SettingTables<'r, 'a> {
-    /// What data types ask of values.
+    /// The requirements of data types on values.
     pub value_types: ValueTypes<'r>,
     /// Where the values of attributes are found.
     pub sources: AttributeSources,
-    /// By number of an explicit attribute, what its declaration asks of its values.
+    /// The underlying type with which each explicit attribute is declared, by number.
     pub declared: Vec<Base>,
-    /// What its entities say of attributes.
+    /// The declarations of attributes by the entities of the schema.
     pub uses: &'r Uses,
     /// The data types of the schema.
     pub data_types: DataTypes,
-    /// The items of its enumerations.
+    /// The items of the enumerations of the schema.
     pub items: Items<'a>,
 }
 
 impl<'r, 'a: 'r> SettingTables<'r, 'a> {
-    /// Those of a schema whose types, inverse attributes and tables are these. Names are hashed by
-    /// these keys.
-    ///
-    /// An error says that memory ran out.
+    /// Builds the tables of the schema whose resolved types, inverse attributes and tables are
+    /// given. Names are hashed by `keys`.
     pub fn of<'t>(
         alloc: Global,
         keys: RandomState,

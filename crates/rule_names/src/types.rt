@@ -1,4 +1,4 @@
-//! The types of values, as TYPEOF gives them (ISO 10303-11, 15.25).
+//! The types of values that TYPEOF names (ISO 10303-11, 15.25).
 
 ghost use Rattle.std.specs.Prelude.{◌≡◌, ◌<◌, ◌↔◌, Bool, IsTrue, length, slice_get};
 ghost use Rattle.std.specs.List.{list_any};
@@ -9,20 +9,20 @@ ghost use Rattle.schema_semantics.specs.Faults.{IsResolved};
 ghost use Rattle.schema_semantics.specs.Names.{Name, IsOrLeads, Renames};
 ghost use Rattle.schema_names.specs.Numbers.{HasNumber};
 ghost use Rattle.schema_names.specs.Schemas.{the_schema};
-ghost use Rattle.schema_bases.specs.Seen.{name_at};
+ghost use Rattle.schema_underlying_types.specs.BaseViews.{name_at};
 ghost use Rattle.express_logic.specs.Views.{text_of};
 ghost use Rattle.conformance.specs.Meanings.{says_type};
-ghost use Rattle.schema_sources.specs.Seen.{types_seen, AreTypes};
-ghost use Rattle.rule_names.specs.Naming.{type_name, says_one, says_in};
+ghost use Rattle.schema_attribute_sources.specs.SourceViews.{types_seen, AreTypes};
+ghost use Rattle.rule_names.specs.steps.Naming.{type_name, says_one, says_in};
 
-use crate::dotted::says_name;
+use crate::qualified_names::says_name;
 use express_logic::strings::AnyString;
 use express_syntax::tree::Declaration;
+use schema_attribute_sources::defined_types::is_defined_by;
 use schema_names::names::Names;
-use schema_sources::defined::is_defined_by;
 use step_literals::literal::Word;
 
-/// Whether a string names what is declared at a number, as TYPEOF gives it.
+/// Whether `text` names the declaration numbered `number`, as TYPEOF does.
 fn says_type(names: &Names<'_, '_>, number: u32, text: &AnyString<'_>) -> bool
     requires { HasNumber (the_schema names.now) (name_at (the_schema names.now) number) number }
     ensures { result ≡ says_type (the_schema names.now) (text_of text.now)
@@ -34,7 +34,7 @@ fn says_type(names: &Names<'_, '_>, number: u32, text: &AnyString<'_>) -> bool
     }
 }
 
-/// Whether a string names one of these types.
+/// Whether `text` names one of `types`, as TYPEOF does.
 pub fn says_any(names: &Names<'_, '_>, types: &[u32], text: &AnyString<'_>) -> bool
     requires { AreTypes (the_schema names.now) types.now }
     ensures { result ≡ list_any (says_type (the_schema names.now) (text_of text.now))
@@ -48,7 +48,7 @@ pub fn says_any(names: &Names<'_, '_>, types: &[u32], text: &AnyString<'_>) -> b
     false
 }
 
-/// The name of a defined type, if it is one.
+/// Returns the name of the declaration if it is that of a defined type.
 fn type_name<'a>(declaration: &Declaration<'a>) -> Option<Word<'a>>
     ensures { if_some capitals result ≡ type_name (declaration_seen declaration.now) }
 {
@@ -58,8 +58,8 @@ fn type_name<'a>(declaration: &Declaration<'a>) -> Option<Word<'a>>
     }
 }
 
-/// Whether a string names the defined type of the second number, and that of the first one is
-/// defined by it.
+/// Whether `other` is a defined type that `text` names, and by which the type numbered `number` is
+/// defined.
 fn says_defining(names: &Names<'_, '_>, number: u32, other: u32, text: &AnyString<'_>) -> bool
     requires resolved { IsResolved (the_schema names.now) }
     requires within { number < length names.now.schema.now.declarations.items }
@@ -77,7 +77,7 @@ fn says_defining(names: &Names<'_, '_>, number: u32, other: u32, text: &AnyStrin
     says_name(names, name, text) && is_defined_by(names, number, other)
 }
 
-/// Whether a string names a defined type by which that of a number is defined.
+/// Whether `text` names a defined type by which the type numbered `number` is defined.
 pub fn says_definition(names: &Names<'_, '_>, number: u32, text: &AnyString<'_>) -> bool
     requires resolved { IsResolved (the_schema names.now) }
     requires within { number < length names.now.schema.now.declarations.items }

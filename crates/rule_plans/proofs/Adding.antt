@@ -4,13 +4,13 @@ use Rattle.std.proofs.Common.{refl, sym, ap, subst, ◌∙◌, append_assoc, app
 use Rattle.std.proofs.lemmas.Bool.Decides.{nat_tests}
 use Rattle.std.proofs.lemmas.List.{map-append}
 use Rattle.std.proofs.lemmas.List.Folds.{list_any-append}
-use Rattle.digraph.specs.Graphs.{has}
+use Rattle.graphs.specs.Graphs.{has}
 use Rattle.express_logic.specs.Data.{Datum}
 use Rattle.rule_values.specs.Parts.{element_datum}
-use Rattle.rule_plans.specs.declared.found.Typed.{Typed}
-use Rattle.rule_plans.specs.declared.found.Found.{Found}
-use Rattle.rule_plans.specs.Coded.{Told}
-use Rattle.rule_plans.specs.Seeking.{number, told_in, Adds}
+use Rattle.rule_plans.specs.declared.found_values.Typed.{Typed}
+use Rattle.rule_plans.specs.declared.found_values.Found.{Found}
+use Rattle.rule_plans.specs.steps.Coded.{Told}
+use Rattle.rule_plans.specs.steps.Seeking.{number, told_in, Adds}
 
 or-false : (b : Bool) → (b || false) ≡ b
 or-false true = refl

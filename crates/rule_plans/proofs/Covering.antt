@@ -3,21 +3,21 @@ use Rattle.std.specs.Prelude.{◌≡◌, ℕ, Bool, true, false, ◌||◌, List,
 use Rattle.std.specs.List.{list_any}
 use Rattle.std.proofs.Common.{refl, inl, inr}
 use Rattle.schema_names.specs.Numbers.{HasNumber}
-use Rattle.schema_bases.specs.Seen.{name_at}
+use Rattle.schema_underlying_types.specs.BaseViews.{name_at}
 use Rattle.conformance.specs.Populations.{Instance}
-use Rattle.population_layouts.proofs.Naming.{same-test}
-use Rattle.schema_conditions.specs.declared.rule.RuleHolder.{RuleHolder}
-use Rattle.schema_conditions.specs.declared.rule.RuleHolder.TheVariants as holders
-use Rattle.schema_conditions.specs.declared.rule.DomainRule.{DomainRule}
+use Rattle.population_forms.proofs.Naming.{same-test}
+use Rattle.schema_domain_rules.specs.declared.rule.RuleHolder.{RuleHolder}
+use Rattle.schema_domain_rules.specs.declared.rule.RuleHolder.TheVariants as holders
+use Rattle.schema_domain_rules.specs.declared.rule.DomainRule.{DomainRule}
 use Rattle.rule_settings.specs.declared.setting.Setting.{Setting}
 use Rattle.rule_settings.specs.Settings.{Meant, schema_in}
-use Rattle.forests.specs.declared.forest.Forest.{Forest}
-use Rattle.forests.specs.Telling.{is_under}
-use Rattle.rule_plans.specs.Seeking.{Agrees, Covers}
-use Rattle.rule_plans.specs.Speaking.{is_of, TypesTell}
-use Rattle.rule_plans.specs.Renamings.{TellsTypes}
-use Rattle.rule_plans.specs.Wanted.{is_type, is_type_rule, States, IsUnion}
-use Rattle.rule_plans.specs.Planning.{Tell, TellAll}
+use Rattle.graphs.specs.declared.forest.Forest.{Forest}
+use Rattle.graphs.specs.steps.Telling.{is_under}
+use Rattle.rule_plans.specs.steps.Seeking.{Agrees, Covers}
+use Rattle.rule_plans.specs.steps.Speaking.{is_of, TypesTell}
+use Rattle.rule_plans.specs.steps.Renamings.{TellsTypes}
+use Rattle.rule_plans.specs.steps.Wanted.{is_type, is_type_rule, States, IsUnion}
+use Rattle.rule_plans.specs.steps.Planning.{Tell, TellAll}
 
 module _ (S : Setting) (m : Meant S) where
   -- a forest tells the types for whose values a rule is tried
@@ -30,7 +30,7 @@ module _ (S : Setting) (m : Meant S) where
       same-test (is_under f i t) (m.said.attributes.is_defined_by (name_at s i) (name_at s t)) (λ e. named.1 (told.0 e))
       (λ e. told.1 (named.0 e))
 
-  -- .. of each that states a rule all are wanted
+  -- all types are wanted for whose values a rule is tried
   pub union-covers : (t : ℕ) (rules : List DomainRule) (union : List Bool) → IsUnion (schema_in S) rules union
       → States rules t → Covers (schema_in S) union (is_of S m (name_at (schema_in S) t))
   union-covers t rules union h said i numbered e =

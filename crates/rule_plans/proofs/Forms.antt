@@ -3,7 +3,7 @@ use Rattle.std.specs.Prelude.{◌≡◌, ℕ, ◌<◌, Bool, true, ◌&&◌, Lis
 use Rattle.std.proofs.Common.{refl, sym, ap, subst, ◌∙◌, inl, inr}
 use Rattle.step_values.specs.Leaves as leaves
 use Rattle.step_values.specs.Leaves.{Leaf}
-use Rattle.step_values.specs.Slots.{kind_of}
+use Rattle.step_values.specs.steps.Slots.{kind_of}
 use Rattle.step_values.specs.Values as values
 use Rattle.step_values.specs.Values.{Value, leaf, reference, Values}
 use Rattle.express_syntax.specs.Schemas.{Schema}
@@ -11,42 +11,42 @@ use Rattle.express_syntax.specs.Profile.{Every}
 use Rattle.schema_semantics.specs.Names.{Name, Among}
 use Rattle.schema_semantics.proofs.Lists.{every-at}
 use Rattle.schema_names.specs.Schemas.{the_schema}
-use Rattle.schema_places.specs.Places.{all_places}
-use Rattle.schema_places.proofs.Distinct.{at-among}
+use Rattle.schema_explicit_attributes.specs.Places.{all_places}
+use Rattle.schema_explicit_attributes.proofs.Distinct.{at-among}
 use Rattle.conformance.specs.Bases as conformance
 use Rattle.conformance.specs.Bases.{Domain, IsDomain, base}
 use Rattle.conformance.specs.Entities.{Entities, AreEntities}
-use Rattle.conformance.specs.Fitting.{inner}
+use Rattle.conformance.specs.ParameterFits.{inner}
 use Rattle.conformance.specs.Populations.{Slot, Instance}
 use Rattle.conformance.specs.Fits.{Typing, Fits, FitEach}
 use Rattle.conformance.specs.Conforming.{Conforms, typing_of}
-use Rattle.schema_bases.specs.declared.base.Base.{Base}
-use Rattle.schema_bases.specs.declared.base.Base.TheVariants as bases
-use Rattle.schema_bases.specs.Making.{entry}
-use Rattle.schema_bases.specs.Seen.{aggregate_seen, base_seen}
-use Rattle.schema_bases.specs.Tables.{IsNumbered}
+use Rattle.schema_underlying_types.specs.declared.base.Base.{Base}
+use Rattle.schema_underlying_types.specs.declared.base.Base.TheVariants as bases
+use Rattle.schema_underlying_types.specs.BaseEntries.{entry}
+use Rattle.schema_underlying_types.specs.BaseViews.{aggregate_seen, base_seen}
+use Rattle.schema_underlying_types.specs.Tables.{IsNumberedBase}
 use Rattle.population_rows.specs.declared.form.Form.{Form}
 use Rattle.population_rows.specs.declared.form.SlotForm.{SlotForm}
-use Rattle.population_typed.specs.Instances.{IsInstance}
-use Rattle.population_typed.specs.Rows.{place_at, slots_seen, instance_seen}
-use Rattle.population_typed.specs.Whole.{form_among, types_by_form, ArePlaced}
-use Rattle.population_typed.specs.declared.instances.InstanceRow.{InstanceRow}
-use Rattle.population_typed.proofs.Found.{kept}
-use Rattle.step_extent.proofs.Held.{numbers-of}
+use Rattle.typed_populations.specs.steps.Instances.{IsInstance}
+use Rattle.typed_populations.specs.Rows.{place_at, slots_seen, instance_seen}
+use Rattle.typed_populations.specs.PopulationTables.{form_among, types_by_form, ArePlaced}
+use Rattle.typed_populations.specs.declared.instances.InstanceRow.{InstanceRow}
+use Rattle.typed_populations.proofs.Found.{kept}
+use Rattle.population_inverses.proofs.Held.{numbers-of}
 use Rattle.rule_values.specs.declared.types.ValueTypes.{ValueTypes}
-use Rattle.rule_values.specs.Coded.{element_base}
+use Rattle.rule_values.specs.TableValues.{element_base}
 use Rattle.rule_values.specs.Tables.{AreValueTypes}
 use Rattle.rule_names.specs.Tables.{AreDeclared}
 use Rattle.rule_settings.specs.declared.setting.Setting.{Setting}
 use Rattle.rule_settings.specs.Settings as settings
 use Rattle.rule_settings.specs.Settings.{IsSetting, Meant, population_in}
-use Rattle.rule_plans.specs.declared.sought.Seeker.{Seeker}
+use Rattle.rule_plans.specs.declared.value_search.Seeker.{Seeker}
 use Rattle.rule_plans.specs.declared.values.Asked.{Asked}
-use Rattle.rule_plans.specs.Coded.{coded_place, coded_slots, slots_in}
-use Rattle.rule_plans.specs.Flat.{is_plain, are_plain, is_flat, has_plain_values, has_flat_values}
-use Rattle.rule_plans.specs.Seeking.{Agrees, Covers, those}
-use Rattle.rule_plans.specs.Speaking.{is_of, values_of}
-use Rattle.rule_plans.specs.Unsought.{is_unsought_place, is_wholly_unsought, all_wholly_unsought, seeker_in, forms_in}
+use Rattle.rule_plans.specs.steps.Coded.{coded_place, coded_slots, slots_in}
+use Rattle.rule_plans.specs.steps.Flat.{is_plain, are_plain, is_flat, has_plain_values, has_flat_values}
+use Rattle.rule_plans.specs.steps.Seeking.{Agrees, Covers, those}
+use Rattle.rule_plans.specs.steps.Speaking.{is_of, values_of}
+use Rattle.rule_plans.specs.steps.Unsought.{is_unsought_place, is_wholly_unsought, all_wholly_unsought, seeker_in, forms_in}
 use Rattle.rule_plans.proofs.Fitting.{declared-fits}
 use Rattle.rule_plans.proofs.Passing.{first-of, second-of, place-none}
 use Rattle.rule_plans.proofs.Placing.{got, place-there, MayFit, instance-same, one-instance}
@@ -89,7 +89,7 @@ module _ (s : Schema) (d : Domain) (typing : Typing) where
       λ i. plain-fits b h v fit i && each-plain b h optional vs fits i
 
   module _ (is : IsDomain s d) (t : ValueTypes) (are : AreValueTypes s t) where
-    elements-as : (b : Base) → IsNumbered s b → (a : conformance.Aggregate) → base_seen s b ≡ conformance.aggregate a
+    elements-as : (b : Base) → IsNumberedBase s b → (a : conformance.Aggregate) → base_seen s b ≡ conformance.aggregate a
         → base_seen s (element_base t b) ≡ base d a.element
     elements-as (bases.Aggregate l) known a e =
         let same : aggregate_seen s l ≡ a = cc in
@@ -101,8 +101,8 @@ module _ (s : Schema) (d : Domain) (typing : Typing) where
     no-typed (bases.Select i) n c h e = absurd (cc)
     no-typed b n c h e = absurd (cc)
 
-    -- .. and one whose elements have none is flat
-    pub flat-fits : (b : Base) → IsNumbered s b → has_flat_values t b ≡ true → (v : Value)
+    -- a value that fits a data type whose elements have no parts is flat
+    pub flat-fits : (b : Base) → IsNumberedBase s b → has_flat_values t b ≡ true → (v : Value)
         → Fits s d typing (base_seen s b) v → is_flat v ≡ true
     flat-fits b known h (leaf a) fits = refl
     flat-fits b known h (reference y) fits = refl

@@ -3,7 +3,7 @@ use Rattle.std.specs.Prelude.{◌≡◌, ℕ, ◌≤◌, max, List, [], ◌∷�
 use Rattle.std.proofs.Common.{sym, subst, arith}
 use Rattle.std.proofs.lemmas.Bool.Decides.{nat_tests}
 use Rattle.express_syntax.proofs.Lists.{every_push}
-use Rattle.schema_derivations.specs.declared.formula.Formula.{Formula}
+use Rattle.schema_derived_attributes.specs.declared.formula.Formula.{Formula}
 use Rattle.rule_plans.specs.Limits.{above_rank, AreRanksBelow}
 
 limit-weaker : (fs : List (Option Formula)) (m n : ℕ) → m ≤ n → AreRanksBelow fs m → AreRanksBelow fs n

@@ -14,29 +14,29 @@ use Rattle.express_syntax.specs.Schemas.{type, entity}
 use Rattle.schema_names.specs.Numbers.{number_of, HasNumber}
 use Rattle.schema_names.specs.Schemas.{the_schema}
 use Rattle.schema_names.proofs.Numbers.{each-number}
-use Rattle.schema_data_types.specs.Numbered.{form_in, all_data_types}
+use Rattle.schema_data_types.specs.NumberedTypes.{form_in, all_data_types}
 use Rattle.conformance.specs.Bases as conformance
 use Rattle.conformance.specs.Bases.{Domain, IsDomain, base}
 use Rattle.conformance.specs.Entities.{Entities}
-use Rattle.conformance.specs.Fitting.{is_entity, inner, element}
+use Rattle.conformance.specs.ParameterFits.{is_entity, inner, element}
 use Rattle.conformance.specs.Fits.{Typing, Fits, FitEach}
-use Rattle.schema_bases.specs.declared.base.Base.{Base}
-use Rattle.schema_bases.specs.declared.base.Base.TheVariants as bases
-use Rattle.schema_bases.specs.Seen.{type_at, or_integer, base_seen}
-use Rattle.schema_bases.specs.Tables.{IsKnown, IsNumbered}
-use Rattle.population_layouts.proofs.Naming.{name-at}
+use Rattle.schema_underlying_types.specs.declared.base.Base.{Base}
+use Rattle.schema_underlying_types.specs.declared.base.Base.TheVariants as bases
+use Rattle.schema_underlying_types.specs.BaseViews.{type_at, or_integer, base_seen}
+use Rattle.schema_underlying_types.specs.Tables.{NamesKnownType, IsNumberedBase}
+use Rattle.population_forms.proofs.Naming.{name-at}
 use Rattle.express_logic.specs.Data.{Datum}
 use Rattle.conformance.specs.Attributes.{Attributes}
 use Rattle.conformance.specs.DomainFindings.{element_in, is_of, itself, values_of, each_of}
 use Rattle.conformance.specs.Values.{datum}
-use Rattle.rule_values.specs.Coded.{named_base, element_base, coded_datum}
+use Rattle.rule_values.specs.TableValues.{named_base, element_base, coded_datum}
 use Rattle.rule_values.specs.Tables.{AreValueTypes}
 use Rattle.rule_values.proofs.Items.{item-declared}
 use Rattle.rule_values.proofs.Worth.{fitting_values_are_worth_the_same}
-use Rattle.rule_plans.specs.declared.sought.Sought.{Sought}
-use Rattle.rule_plans.specs.declared.sought.Seeker.{Seeker}
-use Rattle.rule_plans.specs.Coded.{named_of, named_at, wanted_in, Told, told_by, by_number, by_name, elements_by, elements_of, coded_itself, coded_values, coded_each, coded_elements}
-use Rattle.rule_plans.specs.Seeking.{IsSeeker, IsDeclared}
+use Rattle.rule_plans.specs.declared.value_search.Sought.{Sought}
+use Rattle.rule_plans.specs.declared.value_search.Seeker.{Seeker}
+use Rattle.rule_plans.specs.steps.Coded.{named_of, named_at, wanted_in, Told, told_by, by_number, by_name, elements_by, elements_of, coded_itself, coded_values, coded_each, coded_elements}
+use Rattle.rule_plans.specs.steps.Seeking.{IsSeeker, IsDeclared}
 use Rattle.rule_plans.proofs.Sifting.{told}
 use Rattle.rule_plans.proofs.Testing.{at-declared, found-declared}
 
@@ -75,12 +75,12 @@ module _ (x : Seeker) (is_seeker : IsSeeker x) (are : AreValueTypes (the_schema 
   pub record IsSought (q : Sought) (k : DataType) : Type 0 where
     pub of : (z : Datum) → F (told_by q.declared z) ≡ cond (is_of s d en attributes t k) (z ∷ []) []
     pub asks : base_seen s q.base ≡ base d k
-    pub numbered : IsNumbered s q.base
+    pub numbered : IsNumberedBase s q.base
 
   told-name : (n : Name) (i : ℕ) → HasNumber s n i → told s test (number_of s n) ≡ test n
   told-name n i h = ap (told s test) h ∙ ap test (name-at s n i h)
 
-  told-form : (k : DataType) → IsKnown s k → told s test (named_of (Some (form_in s k))) ≡ is_of s d en attributes t k
+  told-form : (k : DataType) → NamesKnownType s k → told s test (named_of (Some (form_in s k))) ≡ is_of s d en attributes t k
   told-form integer known = refl
   told-form number known = refl
   told-form boolean known = refl
@@ -94,12 +94,12 @@ module _ (x : Seeker) (is_seeker : IsSeeker x) (are : AreValueTypes (the_schema 
   told-form (bag b k) known = refl
   told-form (set b k) known = refl
 
-  told-at : (o : Option DataType) → IsKnown s (or_integer o)
+  told-at : (o : Option DataType) → NamesKnownType s (or_integer o)
       → told s test (named_of (option_map (form_in s) o)) ≡ is_of s d en attributes t (or_integer o)
   told-at None known = refl
   told-at (Some k) known = told-form k known
 
-  pub sought-number : (j : ℕ) → IsKnown s (type_at s j) → IsSought (by_number x j) (type_at s j)
+  pub sought-number : (j : ℕ) → NamesKnownType s (type_at s j) → IsSought (by_number x j) (type_at s j)
   sought-number j known = record {
     of = λ z.
         single (named_at x.forms.now j) (at-declared s x.forms.now is_seeker.forms j (named_at x.forms.now j) refl) z
@@ -128,7 +128,7 @@ module _ (x : Seeker) (is_seeker : IsSeeker x) (are : AreValueTypes (the_schema 
       by : (b : Base) → q.base ≡ b → IsSought (elements_by x q b) (element_in k (base d k))
       by (bases.Aggregate a) e =
           subst (IsSought (by_number x a.element)) (seen (bases.Aggregate a) e)
-          (sought-number a.element (subst (IsNumbered s) e h.numbered))
+          (sought-number a.element (subst (IsNumberedBase s) e h.numbered))
       by bases.Integer e = subst (IsSought q) (seen bases.Integer e) h
       by bases.Number e = subst (IsSought q) (seen bases.Number e) h
       by bases.Boolean e = subst (IsSought q) (seen bases.Boolean e) h
@@ -139,7 +139,7 @@ module _ (x : Seeker) (is_seeker : IsSeeker x) (are : AreValueTypes (the_schema 
       by (bases.Entity i) e = subst (IsSought q) (seen (bases.Entity i) e) h
       by (bases.Select i) e = subst (IsSought q) (seen (bases.Select i) e) h
 
-  element-seen : (b : Base) → IsNumbered s b → base_seen s (element_base x.types.now b) ≡ element s d (base_seen s b)
+  element-seen : (b : Base) → IsNumberedBase s b → base_seen s (element_base x.types.now b) ≡ element s d (base_seen s b)
   element-seen (bases.Aggregate a) known = are.by_number d is a.element known
   element-seen bases.Integer known = refl
   element-seen bases.Number known = refl
@@ -151,7 +151,7 @@ module _ (x : Seeker) (is_seeker : IsSeeker x) (are : AreValueTypes (the_schema 
   element-seen (bases.Entity i) known = refl
   element-seen (bases.Select i) known = refl
 
-  element-numbered : (b : Base) → IsNumbered s b → IsNumbered s (element_base x.types.now b)
+  element-numbered : (b : Base) → IsNumberedBase s b → IsNumberedBase s (element_base x.types.now b)
   element-numbered (bases.Aggregate a) known = are.numbered a.element
   element-numbered b known = known
 
@@ -162,12 +162,12 @@ module _ (x : Seeker) (is_seeker : IsSeeker x) (are : AreValueTypes (the_schema 
   alone q k h b v e =
       h.of (coded_datum x.types.now b v) ∙ ap (λ z. cond (is_of s d en attributes t k) (z ∷ []) []) e
 
-  worth : (b : Base) → IsNumbered s b → (v : Value) → Fits s d typing (base_seen s b) v
+  worth : (b : Base) → IsNumberedBase s b → (v : Value) → Fits s d typing (base_seen s b) v
       → coded_datum x.types.now b v ≡ datum s d (base_seen s b) v
   worth b known v fits =
       fitting_values_are_worth_the_same s d is_seeker.resolved is x.types.now are typing b known v (inr fits)
 
-  leaf-same : (q : Sought) (k : DataType) → IsSought q k → (b : Base) → IsNumbered s b → (a : Leaf)
+  leaf-same : (q : Sought) (k : DataType) → IsSought q k → (b : Base) → IsNumberedBase s b → (a : Leaf)
       → Fits s d typing (base_seen s b) (leaf a)
       → F (coded_values x q b (leaf a)) ≡ values_of s d en attributes t k (base_seen s b) (leaf a)
   leaf-same q k h b known leaves.unset fits = empty
@@ -187,7 +187,7 @@ module _ (x : Seeker) (is_seeker : IsSeeker x) (are : AreValueTypes (the_schema 
       ap (λ w. F (coded_values x q b w)) e ∙ empty ∙ ap (values_of s d en attributes t k (base_seen s b)) (sym e)
 
   mutual
-    value-same : (q : Sought) (k : DataType) → IsSought q k → (b : Base) → IsNumbered s b → (v : Value)
+    value-same : (q : Sought) (k : DataType) → IsSought q k → (b : Base) → IsNumberedBase s b → (v : Value)
         → Fits s d typing (base_seen s b) v
         → F (coded_values x q b v) ≡ values_of s d en attributes t k (base_seen s b) v
     value-same q k h b known (leaf a) fits = leaf-same q k h b known a fits
@@ -217,7 +217,7 @@ module _ (x : Seeker) (is_seeker : IsSeeker x) (are : AreValueTypes (the_schema 
         ∙ ap (λ z. itself s d en attributes t k (base_seen s b) (values.bag vs)
         ++ each_of s d en attributes t (element_in k (base d k)) z vs) here
 
-    each-same : (q : Sought) (k : DataType) → IsSought q k → (b : Base) → IsNumbered s b → (optional : Bool)
+    each-same : (q : Sought) (k : DataType) → IsSought q k → (b : Base) → IsNumberedBase s b → (optional : Bool)
         (vs : Values) → FitEach s d typing optional (base_seen s b) vs
         → F (coded_each x q b vs) ≡ each_of s d en attributes t k (base_seen s b) vs
     each-same q k h b known optional values.none fits = empty
@@ -228,8 +228,8 @@ module _ (x : Seeker) (is_seeker : IsSeeker x) (are : AreValueTypes (the_schema 
         joined (coded_values x q b v) (coded_each x q b vs)
         ∙ (λ i. value-same q k h b known v fit i ++ each-same q k h b known optional vs fits i)
 
-  -- .. where it is left out or derived too
-  pub all-same : (q : Sought) (k : DataType) → IsSought q k → (b : Base) → IsNumbered s b → (v : Value)
+  -- the values of any value that fits, is left out or is derived
+  pub all-same : (q : Sought) (k : DataType) → IsSought q k → (b : Base) → IsNumberedBase s b → (v : Value)
       → ((v ≡ leaf unset) ⊎ (v ≡ leaf derived)) ⊎ Fits s d typing (base_seen s b) v
       → F (coded_values x q b v) ≡ values_of s d en attributes t k (base_seen s b) v
   all-same q k h b known v (inl (inl e)) = unset-same q k b v e

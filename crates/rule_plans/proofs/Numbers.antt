@@ -3,10 +3,10 @@ use Rattle.std.specs.Prelude.{◌≡◌, ℕ, zero, suc, ◌+◌, ◌<◌, Bool,
 use Rattle.std.proofs.Common.{sym, ap, ◌∙◌, drop, get_or, add-one, arith}
 use Rattle.express_syntax.specs.Profile.{Every}
 use Rattle.population_rows.specs.declared.form.Form.{Form}
-use Rattle.population_typed.proofs.Turns.{drop-got}
-use Rattle.step_extent.specs.Inverses.{row_by}
-use Rattle.schema_conditions.specs.declared.rule.DomainRule.{DomainRule}
-use Rattle.rule_plans.specs.Applying.{may_apply, numbers_by}
+use Rattle.typed_populations.proofs.Turns.{drop-got}
+use Rattle.population_inverses.specs.steps.Inverses.{row_by}
+use Rattle.schema_domain_rules.specs.declared.rule.DomainRule.{DomainRule}
+use Rattle.rule_plans.specs.steps.Applying.{may_apply, numbers_by}
 
 -- the numbers are within the list
 pub numbers-within : (rules : List DomainRule) (n m : ℕ) (x : Form) → n + length rules ≡ m

@@ -1,27 +1,27 @@
 -- Values and attributes that are passed, since nothing that is sought can be there.
 use Rattle.std.specs.Prelude.{◌≡◌, ℕ, zero, suc, ◌+◌, Bool, true, false, ◌&&◌, cond, List, [], ◌∷◌, ◌++◌, map, Option, None, Some, is_none}
 use Rattle.std.proofs.Common.{refl, sym, ap, subst, ◌∙◌}
-use Rattle.step_values.specs.Slots.{nth, kind_of}
+use Rattle.step_values.specs.steps.Slots.{nth, kind_of}
 use Rattle.step_values.specs.Values as values
 use Rattle.step_values.specs.Values.{Value, leaf, reference, Values, none, more}
 use Rattle.step_values.proofs.Walks.{after, after_at}
-use Rattle.schema_bases.specs.declared.base.Base.{Base}
-use Rattle.schema_bases.specs.Making.{entry}
-use Rattle.schema_uses.specs.declared.uses.AttributeUse.{AttributeUse}
-use Rattle.schema_uses.specs.declared.uses.Uses.{Uses}
+use Rattle.schema_underlying_types.specs.declared.base.Base.{Base}
+use Rattle.schema_underlying_types.specs.BaseEntries.{entry}
+use Rattle.schema_redeclarations.specs.declared.uses.AttributeUse.{AttributeUse}
+use Rattle.schema_redeclarations.specs.declared.uses.Uses.{Uses}
 use Rattle.population_rows.specs.declared.form.Form.{Form}
 use Rattle.population_rows.specs.declared.form.SlotForm.{SlotForm}
-use Rattle.population_layouts.specs.Slots.{uses_by}
-use Rattle.population_typed.specs.Whole.{form_among, types_by_form}
+use Rattle.population_forms.specs.steps.Slots.{uses_by}
+use Rattle.typed_populations.specs.PopulationTables.{form_among, types_by_form}
 use Rattle.express_logic.specs.Data.{Datum}
-use Rattle.rule_values.specs.Coded.{element_base, coded_datum}
+use Rattle.rule_values.specs.TableValues.{element_base, coded_datum}
 use Rattle.rule_settings.specs.declared.setting.Setting.{Setting}
-use Rattle.rule_plans.specs.declared.sought.Sought.{Sought}
-use Rattle.rule_plans.specs.declared.sought.Seeker.{Seeker}
+use Rattle.rule_plans.specs.declared.value_search.Sought.{Sought}
+use Rattle.rule_plans.specs.declared.value_search.Seeker.{Seeker}
 use Rattle.rule_plans.specs.declared.values.Asked.{Asked}
-use Rattle.rule_plans.specs.Coded.{is_whole, told_by, by_number, elements_of, coded_itself, coded_values, coded_each, coded_uses, coded_place, slots_in}
-use Rattle.rule_plans.specs.Flat.{is_plain, are_plain, is_flat, is_flat_at}
-use Rattle.rule_plans.specs.Unsought.{is_unsought, all_unsought, is_unsought_place, unsought_of, AreUnsought, all_wholly_unsought, is_unsought_form, says_form, table_by, seeker_in, forms_in, unsought_in, unsought_forms_in, AreRight, IsRight}
+use Rattle.rule_plans.specs.steps.Coded.{is_whole, told_by, by_number, elements_of, coded_itself, coded_values, coded_each, coded_uses, coded_place, slots_in}
+use Rattle.rule_plans.specs.steps.Flat.{is_plain, are_plain, is_flat, is_flat_at}
+use Rattle.rule_plans.specs.steps.Unsought.{is_unsought, all_unsought, is_unsought_place, unsought_of, AreUnsought, all_wholly_unsought, is_unsought_form, says_form, table_by, seeker_in, forms_in, unsought_in, unsought_forms_in, AreRight, IsRight}
 use Rattle.rule_plans.proofs.Walking.{nothing-there}
 
 pub first-of : (a b : Bool) → (a && b) ≡ true → a ≡ true

@@ -10,42 +10,42 @@ use Rattle.express_syntax.specs.Profile.{Every}
 use Rattle.schema_semantics.specs.Names.{Name, Among, IsEntity}
 use Rattle.schema_semantics.specs.Attributes.{Place}
 use Rattle.schema_semantics.proofs.Lists.{every-of}
-use Rattle.digraph.specs.Graphs.{has}
+use Rattle.graphs.specs.Graphs.{has}
 use Rattle.schema_names.specs.Numbers.{HasNumber}
 use Rattle.schema_names.specs.Schemas.{the_schema}
 use Rattle.schema_names.proofs.Numbers.{stands-at}
-use Rattle.schema_places.specs.Places.{all_places}
+use Rattle.schema_explicit_attributes.specs.Places.{all_places}
 use Rattle.conformance.specs.Bases.{Domain, IsDomain}
 use Rattle.conformance.specs.Entities.{Entities, AreEntities, declarations_by, data_types}
-use Rattle.conformance.specs.Fitting.{among}
+use Rattle.conformance.specs.ParameterFits.{is_listed}
 use Rattle.conformance.specs.Populations.{Slot, Instance}
 use Rattle.conformance.specs.Fits.{Typing, Fits}
 use Rattle.conformance.specs.Conforming.{Conforms}
-use Rattle.schema_bases.specs.declared.base.Base.{Base}
-use Rattle.schema_bases.specs.declared.base.Base.TheVariants.{Integer}
-use Rattle.schema_bases.specs.Making.{is_some_entity, is_entity_at}
-use Rattle.schema_bases.specs.Seen.{name_at, type_at, base_seen}
-use Rattle.schema_bases.specs.Tables.{IsKnown, IsNumbered}
-use Rattle.schema_uses.specs.declared.uses.AttributeUse.{AttributeUse}
-use Rattle.schema_uses.specs.declared.uses.Uses.{Uses}
-use Rattle.schema_uses.specs.Uses.{HasPlace, of_place, uses_at, seen, said, AreUses}
+use Rattle.schema_underlying_types.specs.declared.base.Base.{Base}
+use Rattle.schema_underlying_types.specs.declared.base.Base.TheVariants.{Integer}
+use Rattle.schema_underlying_types.specs.BaseEntries.{is_some_entity, is_entity_at}
+use Rattle.schema_underlying_types.specs.BaseViews.{name_at, type_at, base_seen}
+use Rattle.schema_underlying_types.specs.Tables.{NamesKnownType, IsNumberedBase}
+use Rattle.schema_redeclarations.specs.declared.uses.AttributeUse.{AttributeUse}
+use Rattle.schema_redeclarations.specs.declared.uses.Uses.{Uses}
+use Rattle.schema_redeclarations.specs.Uses.{HasPlace, of_place, uses_at, seen, said, AreUses}
 use Rattle.population_rows.specs.declared.form.Form.{Form}
 use Rattle.population_rows.specs.declared.form.SlotForm.{SlotForm}
-use Rattle.population_layouts.specs.Slots.{uses_by}
-use Rattle.population_layouts.proofs.Naming.{among-is}
-use Rattle.population_typed.specs.Rows.{or_nowhere, place_at, slots_seen, instance_seen}
-use Rattle.population_typed.specs.Whole.{types_by_form, ArePlaced, HaveEntities}
-use Rattle.step_extent.proofs.Held.{HasNumbers}
+use Rattle.population_forms.specs.steps.Slots.{uses_by}
+use Rattle.population_forms.proofs.Naming.{among-is}
+use Rattle.typed_populations.specs.Rows.{or_nowhere, place_at, slots_seen, instance_seen}
+use Rattle.typed_populations.specs.PopulationTables.{types_by_form, ArePlaced, HaveEntities}
+use Rattle.population_inverses.proofs.Held.{HasNumbers}
 use Rattle.express_logic.specs.Data.{Datum}
 use Rattle.conformance.specs.Attributes.{Attributes}
 use Rattle.conformance.specs.DomainFindings.{values_of, in_slot}
 use Rattle.conformance.specs.Values.{first_declared}
 use Rattle.rule_values.specs.Tables.{AreValueTypes}
 use Rattle.rule_names.specs.Tables.{AreDeclared}
-use Rattle.rule_plans.specs.declared.sought.Seeker.{Seeker}
+use Rattle.rule_plans.specs.declared.value_search.Seeker.{Seeker}
 use Rattle.rule_plans.specs.declared.values.Asked.{Asked}
-use Rattle.rule_plans.specs.Coded.{wanted_in, Told, told_by, by_number, coded_values, coded_uses, coded_place, coded_slots, slots_in}
-use Rattle.rule_plans.specs.Seeking.{IsSeeker, IsDeclared}
+use Rattle.rule_plans.specs.steps.Coded.{wanted_in, Told, told_by, by_number, coded_values, coded_uses, coded_place, coded_slots, slots_in}
+use Rattle.rule_plans.specs.steps.Seeking.{IsSeeker, IsDeclared}
 use Rattle.rule_plans.proofs.Fitting.{declared-fits}
 use Rattle.rule_plans.proofs.Meaning.{sought-number, all-same}
 use Rattle.rule_plans.proofs.Sifting.{told}
@@ -95,7 +95,7 @@ module _ (s : Schema) where
       by (Some (skipped p)) e k = absurd (cc)
 
   module _ (t : Uses) (uses : AreUses s t) where
-    -- .. with which types declare the attribute of a place
+    -- the data types with which types declare the attribute of a place
     module _ (en : Entities) (g : AreEntities s en) (p : Place) (q : ℕ) (at : HasPlace s p q) where
       first-are : (i : ℕ) → HasNumber s (name_at s i) i → is_entity_at s i ≡ true
           → asked s (of_place q (uses_at t i)) ≡ map (λ (x : Explicit). x.data_type) (en.declarations (name_at s i) p)
@@ -117,12 +117,12 @@ module _ (s : Schema) where
 
     -- they are known
     known-uses : (q : ℕ) (xs : List ℕ)
-        → Every (λ (u : AttributeUse). IsKnown s (type_at s u.data_type)) (uses_by t xs q)
+        → Every (λ (u : AttributeUse). NamesKnownType s (type_at s u.data_type)) (uses_by t xs q)
     known-uses q [] = tt
     known-uses q (i ∷ xs) =
-        every-joined (λ (u : AttributeUse). IsKnown s (type_at s u.data_type)) (of_place q (uses_at t i)) (uses_by t xs q)
-        (every-filtered (λ (u : AttributeUse). IsKnown s (type_at s u.data_type)) (λ (u : AttributeUse). u.place == q)
-        (uses_at t i) (every-of (λ (u : AttributeUse). IsKnown s (type_at s u.data_type)) (uses_at t i) (uses.known i)))
+        every-joined (λ (u : AttributeUse). NamesKnownType s (type_at s u.data_type)) (of_place q (uses_at t i)) (uses_by t xs q)
+        (every-filtered (λ (u : AttributeUse). NamesKnownType s (type_at s u.data_type)) (λ (u : AttributeUse). u.place == q)
+        (uses_at t i) (every-of (λ (u : AttributeUse). NamesKnownType s (type_at s u.data_type)) (uses_at t i) (uses.known i)))
         (known-uses q xs)
 
 -- A value is left out or derived, or fits a data type.
@@ -141,9 +141,9 @@ module _ (x : Seeker) (is_seeker : IsSeeker x) (are : AreValueTypes (the_schema 
   abbrev s : Schema
   s = the_schema x.names.now
 
-  uses-same : (b : Base) → IsNumbered s b → (v : Value)
+  uses-same : (b : Base) → IsNumberedBase s b → (v : Value)
       → ((v ≡ leaf unset) ⊎ (v ≡ leaf derived)) ⊎ Fits s d typing (base_seen s b) v → (us : List AttributeUse)
-      → Every (λ (u : AttributeUse). IsKnown s (type_at s u.data_type)) us
+      → Every (λ (u : AttributeUse). NamesKnownType s (type_at s u.data_type)) us
       → F (coded_uses x b (Some v) us)
       ≡ flat_map (λ (l : DataType). values_of s d en attributes t l (base_seen s b) v) (asked s us)
   uses-same b known v fits [] all = empty
@@ -217,6 +217,6 @@ one-instance is row x y at there = some-is x y (sym at ∙ there)
 -- an instance of a form is of an entity where the number of the entity is among those of its types
 pub is-of-entity : (s : Schema) (i : ℕ) → HasNumber s (name_at s i) i → (o : Option Form) → HasNumbers s o
     → (n section : ℕ) (vs : Values)
-    → among (name_at s i) (instance_seen s n section o vs).types ≡ has (types_by_form o) i
+    → is_listed (name_at s i) (instance_seen s n section o vs).types ≡ has (types_by_form o) i
 is-of-entity s i h None numbers n section vs = refl
 is-of-entity s i h (Some f) numbers n section vs = among-is s (name_at s i) i h f.types.items numbers

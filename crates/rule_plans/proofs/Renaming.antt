@@ -2,8 +2,8 @@
 use Rattle.std.specs.Prelude.{◌≡◌, ℕ, ◌<◌, true, false, List, [], ◌∷◌, Option, None, Some, length, slice_get, ◌↔◌}
 use Rattle.std.proofs.Common.{inl, inr, ap, sym, subst, ◌∙◌, arith}
 use Rattle.std.proofs.lemmas.Bool.Decides.{nat_tests}
-use Rattle.digraph.specs.Graphs.{Graph, has, next, Step, Chain, Leads, Reaches, IsAcyclic}
-use Rattle.digraph.proofs.Placed.{step-within}
+use Rattle.graphs.specs.Graphs.{Graph, has, next, Step, Chain, Leads, Reaches, IsAcyclic}
+use Rattle.graphs.proofs.Placed.{step-within}
 use Rattle.express_syntax.specs.Schemas.{Schema, DataType, named}
 use Rattle.schema_semantics.specs.Names.{Name, Renames, IsMadeOf}
 use Rattle.schema_semantics.specs.Faults.{IsResolved}
@@ -11,14 +11,14 @@ use Rattle.schema_semantics.proofs.Lists.{leads-kept, last-step}
 use Rattle.schema_names.specs.Numbers.{number_of, HasNumber}
 use Rattle.schema_names.proofs.Numbers.{one-name}
 use Rattle.schema_names.proofs.Edges.{number-within}
-use Rattle.schema_bases.specs.Seen.{name_at}
-use Rattle.schema_sources.specs.Defined.{renamed_of, number_for, renamed_at}
-use Rattle.schema_sources.proofs.Following.{named-is, name-followed, followed, leads-name, renamed-within}
-use Rattle.schema_sources.proofs.Members.{one-number}
-use Rattle.forests.specs.Forests.{first_or, IsForest, IsUnder}
-use Rattle.forests.specs.declared.forest.Forest.{Forest}
-use Rattle.forests.specs.Telling.{Tells}
-use Rattle.rule_plans.specs.Renamings.{as_row, AreRenamings, IsDefinedBy, TellsTypes}
+use Rattle.schema_underlying_types.specs.BaseViews.{name_at}
+use Rattle.schema_attribute_sources.specs.steps.Defined.{renamed_of, number_for, renamed_at}
+use Rattle.schema_attribute_sources.proofs.Following.{named-is, name-followed, followed, leads-name, renamed-within}
+use Rattle.schema_attribute_sources.proofs.Members.{one-number}
+use Rattle.graphs.specs.steps.Forests.{first_or, IsForest, IsUnder}
+use Rattle.graphs.specs.declared.forest.Forest.{Forest}
+use Rattle.graphs.specs.steps.Telling.{Tells}
+use Rattle.rule_plans.specs.steps.Renamings.{as_row, AreRenamings, IsDefinedBy, TellsTypes}
 
 module _ (s : Schema) where
   target : (i j : ℕ) → renamed_at s i ≡ Some j → (n : Name) × HasNumber s n j

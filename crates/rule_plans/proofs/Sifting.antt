@@ -2,13 +2,13 @@
 use Rattle.std.specs.Prelude.{◌≡◌, ℕ, Bool, true, false, ◌||◌, cond, List, [], ◌∷◌, ◌++◌, map, eqb, Option, None, Some}
 use Rattle.std.proofs.Common.{refl, sym, ap, ◌∙◌, arith}
 use Rattle.std.proofs.lemmas.Bool.Decides.{nat_tests}
-use Rattle.digraph.specs.Graphs.{has}
+use Rattle.graphs.specs.Graphs.{has}
 use Rattle.express_syntax.specs.Schemas.{Schema}
 use Rattle.schema_semantics.specs.Names.{Name}
-use Rattle.schema_bases.specs.Seen.{name_at}
+use Rattle.schema_underlying_types.specs.BaseViews.{name_at}
 use Rattle.express_logic.specs.Data.{Datum}
-use Rattle.rule_plans.specs.Coded.{is_wanted, wanted_in, Told, told_by}
-use Rattle.rule_plans.specs.Seeking.{IsDeclared, Agrees, Covers, Tells, those, worth, number}
+use Rattle.rule_plans.specs.steps.Coded.{is_wanted, wanted_in, Told, told_by}
+use Rattle.rule_plans.specs.steps.Seeking.{IsDeclared, Agrees, Covers, Tells, those, worth, number}
 
 -- whether what is declared at a number passes a test of its name
 abbrev pub told : Schema → (Name → Bool) → Option ℕ → Bool

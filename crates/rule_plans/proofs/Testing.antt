@@ -7,17 +7,17 @@ use Rattle.express_syntax.specs.Schemas.{Schema, DataType, integer, number, bool
 use Rattle.schema_semantics.specs.Names.{Name}
 use Rattle.schema_names.specs.Numbers.{number_of}
 use Rattle.schema_data_types.specs.declared.forms.Form.{Form}
-use Rattle.schema_data_types.specs.Numbered.{form_in, all_data_types}
-use Rattle.population_layouts.proofs.Naming.{has-own-name}
-use Rattle.rule_plans.specs.Coded.{named_in, named_of, named_at}
-use Rattle.rule_plans.specs.Seeking.{IsDeclared}
+use Rattle.schema_data_types.specs.NumberedTypes.{form_in, all_data_types}
+use Rattle.population_forms.proofs.Naming.{has-own-name}
+use Rattle.rule_plans.specs.steps.Coded.{named_in, named_of, named_at}
+use Rattle.rule_plans.specs.steps.Seeking.{IsDeclared}
 
 -- a number that is found is that of its name
 pub found-declared : (s : Schema) (n : Name) (o : Option ℕ) → o ≡ number_of s n → IsDeclared s o
 found-declared s n None e = tt
 found-declared s n (Some i) e = has-own-name s n i (sym e)
 
--- .. and so is that which a data type names
+-- what the form of a data type names is declared
 form-declared : (s : Schema) (k : DataType) → IsDeclared s (named_in (form_in s k))
 form-declared s integer = tt
 form-declared s number = tt

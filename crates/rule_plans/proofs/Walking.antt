@@ -4,25 +4,26 @@ use Rattle.std.proofs.Common.{refl, sym, ap, ◌∙◌, append-nil, arith}
 use Rattle.std.proofs.lemmas.Bool.Decides.{nat_tests}
 use Rattle.std.proofs.lemmas.List.Elements.{filter-append}
 use Rattle.std.proofs.lemmas.Grind.{flat_map-append}
-use Rattle.step_values.specs.ComputedAgreement.{size}
-use Rattle.step_values.specs.Slots.{nth}
+use Rattle.step_values.specs.AgreementTests.{value_count}
+use Rattle.step_values.specs.steps.Slots.{nth}
 use Rattle.step_values.specs.Values as values
 use Rattle.step_values.specs.Values.{Value, leaf, reference, Values, none, more}
-use Rattle.step_values.proofs.Walks.{after, after_at, after_all, not_equal}
-use Rattle.schema_bases.specs.declared.base.Base.{Base}
-use Rattle.schema_bases.specs.Making.{entry}
-use Rattle.schema_uses.specs.declared.uses.AttributeUse.{AttributeUse}
-use Rattle.schema_uses.specs.declared.uses.Uses.{Uses}
-use Rattle.schema_uses.specs.Uses.{of_place, uses_at}
+use Rattle.step_values.proofs.Crowds.{not_equal}
+use Rattle.step_values.proofs.Walks.{after, after_at, after_all}
+use Rattle.schema_underlying_types.specs.declared.base.Base.{Base}
+use Rattle.schema_underlying_types.specs.BaseEntries.{entry}
+use Rattle.schema_redeclarations.specs.declared.uses.AttributeUse.{AttributeUse}
+use Rattle.schema_redeclarations.specs.declared.uses.Uses.{Uses}
+use Rattle.schema_redeclarations.specs.Uses.{of_place, uses_at}
 use Rattle.population_rows.specs.declared.form.SlotForm.{SlotForm}
-use Rattle.population_layouts.specs.Slots.{uses_by}
-use Rattle.population_typed.proofs.Turns.{drop-item}
-use Rattle.rule_plans.specs.declared.sought.Sought.{Sought}
-use Rattle.rule_plans.specs.declared.sought.Seeker.{Seeker}
+use Rattle.population_forms.specs.steps.Slots.{uses_by}
+use Rattle.typed_populations.proofs.Turns.{drop-item}
+use Rattle.rule_plans.specs.declared.value_search.Sought.{Sought}
+use Rattle.rule_plans.specs.declared.value_search.Seeker.{Seeker}
 use Rattle.rule_plans.specs.declared.values.Asked.{Asked}
-use Rattle.rule_plans.specs.Coded.{by_number, coded_itself, coded_values, coded_each, coded_inside, coded_at, coded_uses, coded_place, coded_slots}
+use Rattle.rule_plans.specs.steps.Coded.{by_number, coded_itself, coded_values, coded_each, coded_inside, coded_at, coded_uses, coded_place, coded_slots}
 
-past : (vs : Values) (i : ℕ) → nth vs i ≡ None → size vs ≤ i
+past : (vs : Values) (i : ℕ) → nth vs i ≡ None → value_count vs ≤ i
 past none i e = omega arith
 past (more v vs) zero e = absurd (cc)
 past (more v vs) (suc i) e = let h = past vs i e in omega (arith, h)
@@ -51,7 +52,7 @@ module _ (x : Seeker) where
       → coded_each x q b (after i vs) ≡ coded_values x q b v ++ coded_each x q b (after (i + 1) vs)
   each-next q b vs i v at = ap (coded_each x q b) (after_at vs i v at)
 
-  pub each-ends : (q : Sought) (b : Base) (vs : Values) (i : ℕ) → size vs ≤ i
+  pub each-ends : (q : Sought) (b : Base) (vs : Values) (i : ℕ) → value_count vs ≤ i
       → coded_each x q b (after i vs) ≡ []
   each-ends q b vs i h = ap (coded_each x q b) (after_all vs i h)
 

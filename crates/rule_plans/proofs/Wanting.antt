@@ -5,27 +5,27 @@ use Rattle.std.proofs.Common.{refl, inl, inr, sym, ap, subst, ◌∙◌, arith, 
 use Rattle.std.proofs.lemmas.Bool.Decides.{nat_tests}
 use Rattle.std.proofs.lemmas.Bool.{cases_eq}
 use Rattle.std.proofs.lemmas.List.{get_or-replicate, length-replicate}
-use Rattle.digraph.specs.Graphs.{Graph, has}
-use Rattle.digraph.proofs.Gathered.{set-here, set-elsewhere}
+use Rattle.graphs.specs.Graphs.{Graph, has}
+use Rattle.graphs.proofs.Gathered.{set-here, set-elsewhere}
 use Rattle.express_syntax.specs.Schemas.{Schema}
 use Rattle.express_syntax.specs.Profile.{Every}
 use Rattle.schema_semantics.specs.Names.{OneOf}
 use Rattle.schema_names.specs.Numbers.{HasNumber}
 use Rattle.schema_names.proofs.Edges.{number-within}
-use Rattle.schema_bases.specs.Seen.{name_at}
-use Rattle.schema_conditions.specs.declared.rule.RuleHolder.{RuleHolder}
-use Rattle.schema_conditions.specs.declared.rule.RuleHolder.TheVariants as holders
-use Rattle.schema_conditions.specs.declared.rule.DomainRule.{DomainRule}
-use Rattle.schema_conditions.specs.Seen.{IsNumbered, IsNumberedHolder}
-use Rattle.forests.specs.Forests.{IsForest, IsUnder}
-use Rattle.forests.specs.Marking.{AreSpread}
-use Rattle.rule_plans.specs.Coded.{is_wanted, or_false}
-use Rattle.rule_plans.specs.Renamings.{AreRenamings, IsDefinedBy}
-use Rattle.rule_plans.specs.Wanted.{States, notes_within, notes_holder, AreStated, IsUnion}
+use Rattle.schema_underlying_types.specs.BaseViews.{name_at}
+use Rattle.schema_domain_rules.specs.declared.rule.RuleHolder.{RuleHolder}
+use Rattle.schema_domain_rules.specs.declared.rule.RuleHolder.TheVariants as holders
+use Rattle.schema_domain_rules.specs.declared.rule.DomainRule.{DomainRule}
+use Rattle.schema_domain_rules.specs.RuleViews.{IsNumberedRule, IsNumberedHolder}
+use Rattle.graphs.specs.steps.Forests.{IsForest, IsUnder}
+use Rattle.graphs.specs.steps.Marking.{AreSpread}
+use Rattle.rule_plans.specs.steps.Coded.{is_wanted, or_false}
+use Rattle.rule_plans.specs.steps.Renamings.{AreRenamings, IsDefinedBy}
+use Rattle.rule_plans.specs.steps.Wanted.{States, notes_within, notes_holder, AreStated, IsUnion}
 use Rattle.rule_plans.proofs.Renaming.{under-is}
 
 -- the defined type that states a rule is numbered
-pub states-numbered : (s : Schema) (rules : List DomainRule) (t : ℕ) → Every (IsNumbered s) rules → States rules t
+pub states-numbered : (s : Schema) (rules : List DomainRule) (t : ℕ) → Every (IsNumberedRule s) rules → States rules t
     → HasNumber s (name_at s t) t
 states-numbered s [] t h m = elim m [ ]
 states-numbered s (r ∷ rules) t h (inl e) = subst (IsNumberedHolder s) e h.0
@@ -131,7 +131,7 @@ wanted-is (x ∷ xs) (suc i) = wanted-is xs i
 
 -- marks that went down are on these types
 pub union-is : (s : Schema) (g : Graph) (rules : List DomainRule) (stated union : List Bool) → AreRenamings s g
-    → Every (IsNumbered s) rules → AreStated rules stated → AreSpread g stated union → IsUnion s rules union
+    → Every (IsNumberedRule s) rules → AreStated rules stated → AreSpread g stated union → IsUnion s rules union
 union-is s g rules stated union rows numbered are spread i h =
     let low = number-within s (name_at s i) i h in
     let many = rows.many in

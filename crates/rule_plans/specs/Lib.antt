@@ -1,10 +1,2 @@
-pub mod Coded
-pub mod Flat
-pub mod Seeking
-pub mod Speaking
-pub mod Unsought
 pub mod Limits
-pub mod Applying
-pub mod Renamings
-pub mod Wanted
-pub mod Planning
+pub mod steps

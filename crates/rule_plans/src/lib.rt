@@ -1,16 +1,16 @@
-//! What is made once of the domain rules of a schema, and the values of SELF for which they are tried
-//! (ISO 10303-11, 9.1 and 9.2.2.2).
+//! Tables that are built once from the domain rules of a schema, and the values of SELF for which
+//! the rules are tried (ISO 10303-11, 9.1 and 9.2.2.2).
 #![tactic(auto)]
 
-mod applying;
-mod flat;
-pub mod found;
-pub mod limit;
+mod applicable_rules;
+mod flat_values;
+pub mod found_values;
 pub mod plan;
+pub mod rank_limit;
 mod renamings;
-mod sought;
-pub mod sought_types;
+pub mod rule_types;
+pub mod searched_types;
+pub mod skipped_attributes;
 mod typed_values;
-pub mod unsought;
+mod value_search;
 pub mod values;
-pub mod wanted;

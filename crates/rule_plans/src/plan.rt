@@ -1,41 +1,41 @@
-//! What is made once, to try rules at the instances of a population.
+//! Tables that are built once to try rules at the instances of a population.
 
 ghost use Rattle.std.specs.Prelude.{◌≡◌, ◌<◌, true, Some, length, slice_get, IfOk};
 ghost use Rattle.express_syntax.specs.Profile.{Every};
 ghost use Rattle.conformance.specs.Populations.{Instance};
-ghost use Rattle.schema_conditions.specs.Seen.{IsNumbered};
+ghost use Rattle.schema_domain_rules.specs.RuleViews.{IsNumberedRule};
 ghost use Rattle.rule_settings.specs.Settings.{IsSetting, Meant, schema_in, population_in};
-ghost use Rattle.rule_plans.specs.Unsought.{AreTables};
-ghost use Rattle.rule_plans.specs.Planning.{IsPlan, TellAll};
+ghost use Rattle.rule_plans.specs.steps.Unsought.{AreTables};
+ghost use Rattle.rule_plans.specs.steps.Planning.{IsPlan, TellAll};
 
-use crate::applying::numbers_by_form;
+use crate::applicable_rules::numbers_by_form;
 use crate::renamings::{forest_of, renamings};
-use crate::unsought::{Unsought, unsought_by_form};
+use crate::rule_types::{has_type_rule, union_of};
+use crate::skipped_attributes::{Unsought, unsought_by_form};
 use crate::values::value_types;
-use crate::wanted::{has_type_rule, union_of};
-use forests::forest::Forest;
+use graphs::forest::Forest;
 use rule_settings::setting::Setting;
-use schema_conditions::rule::DomainRule;
+use schema_domain_rules::rule::DomainRule;
 use std::alloc::{AllocError, Global};
 
 /// The rules that are tried, and where.
 #[derive(Drop)]
 pub struct Plan<'s, 't, 'n> {
     pub rules: &'n [DomainRule<'s, 't>],
-    /// By form, the numbers of the rules that may have a value of SELF at its instances.
+    /// For each form, the numbers of the rules that may have a value of SELF at its instances.
     pub rows: Vec<Vec<usize>>,
     /// Which defined types are defined by which.
     pub renamed: Forest,
-    /// By declaration, whether some rule is tried for the values of that defined type.
+    /// For each declaration, whether a rule is tried for the values of that defined type.
     pub union: Vec<bool>,
-    /// A defined type states one of the rules.
+    /// Whether a defined type states one of the rules.
     pub seeks: bool,
-    /// Where no values can stand for which the rule of a defined type is tried; empty where no
+    /// Where there can't be values for which the rule of a defined type is tried; empty if no
     /// defined type states a rule.
     pub unsought: Unsought,
 }
 
-/// Where no values of these types can stand, where they are sought at all; else empty tables.
+/// Returns where there can't be values of `wanted` types; empty tables if `seeks` is false.
 fn unsought_where(
     alloc: Global,
     setting: &Setting<'_, '_, '_, '_, '_, '_>,
@@ -54,14 +54,14 @@ fn unsought_where(
     })
 }
 
-/// The plan of these rules.
+/// Builds the plan of `rules`.
 pub fn plan_of<'n, 't, 's>(
     alloc: Global,
     setting: &Setting<'s, 't, '_, '_, '_, '_>,
     rules: &'n [DomainRule<'s, 't>],
 ) -> Result<Plan<'s, 't, 'n>, AllocError>
     requires setting { IsSetting setting.now }
-    requires numbered { Every (IsNumbered (schema_in setting.now)) rules.now }
+    requires numbered { Every (IsNumberedRule (schema_in setting.now)) rules.now }
     ensures plan { IfOk result (IsPlan setting.now) }
     ensures rules { IfOk result (λ p. p.rules.now ≡ rules.now) }
 {
@@ -83,7 +83,8 @@ pub fn plan_of<'n, 't, 's>(
     })
 }
 
-/// The numbers of the defined types of the values at an instance for which rules are tried.
+/// Returns the numbers of the defined types of the values at the instance of `row` for which rules
+/// are tried.
 pub fn types_at<'p, 'e, 'r, 't, 's: 'r, 'a: 'r>(
     alloc: Global,
     setting: &Setting<'s, 't, 'r, 'a, 'e, 'p>,

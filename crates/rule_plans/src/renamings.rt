@@ -1,18 +1,20 @@
-//! Which defined types are defined by which, told in constant time (ISO 10303-11, 8.3.2).
+//! Which defined types are defined by which, as a table with look-ups in constant time
+//! (ISO 10303-11, 8.3.2).
 
 ghost use Rattle.std.specs.Prelude.{◌≡◌, ◌<◌, ◌^◌, length, IfOk};
-ghost use Rattle.digraph.specs.Graphs.{graph_of};
+ghost use Rattle.graphs.specs.Graphs.{graph_of};
 ghost use Rattle.schema_semantics.specs.Faults.{IsResolved};
 ghost use Rattle.schema_names.specs.Schemas.{the_schema};
-ghost use Rattle.schema_sources.specs.Defined.{renamed_at};
-ghost use Rattle.rule_plans.specs.Renamings.{as_row, AreRenamings, TellsTypes};
+ghost use Rattle.schema_attribute_sources.specs.steps.Defined.{renamed_at};
+ghost use Rattle.rule_plans.specs.steps.Renamings.{as_row, AreRenamings, TellsTypes};
 
-use forests::forest::Forest;
+use graphs::forest::Forest;
+use schema_attribute_sources::defined_types::renamed;
 use schema_names::names::Names;
-use schema_sources::defined::renamed;
 use std::alloc::{AllocError, Global};
 
-/// What the defined type of a number is defined by, as a row of a graph.
+/// Returns the declaration by which the defined type numbered `number` is defined, if any, as a row
+/// of a graph.
 fn row_of(alloc: Global, names: &Names<'_, '_>, number: u32) -> Result<Vec<u32>, AllocError>
     requires { number < length names.now.schema.now.declarations.items }
     ensures { IfOk result (λ v. v.items ≡ as_row (renamed_at (the_schema names.now) number)) }
@@ -25,7 +27,8 @@ fn row_of(alloc: Global, names: &Names<'_, '_>, number: u32) -> Result<Vec<u32>,
     Ok(row)
 }
 
-/// The graph of what declarations are defined by, as a forest.
+/// Returns the forest of `edges`, which has an edge from each declaration to the one by which it is
+/// defined, if any.
 pub(crate) fn forest_of(
     alloc: Global,
     names: &Names<'_, '_>,
@@ -38,7 +41,7 @@ pub(crate) fn forest_of(
     Forest::of(alloc, edges)
 }
 
-/// By declaration, what it is defined by, as the graph of a forest.
+/// Returns, for each declaration, the one by which it is defined, if any, as the graph of a forest.
 pub(crate) fn renamings(alloc: Global, names: &Names<'_, '_>) -> Result<Vec<Vec<u32>>, AllocError>
     ensures { IfOk result (λ t. AreRenamings (the_schema names.now) (graph_of t.items)) }
 {

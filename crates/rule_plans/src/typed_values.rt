@@ -2,8 +2,8 @@
 #![tactic(auto)]
 
 ghost use Rattle.std.specs.Prelude.{◌≡◌, OnOk};
-ghost use Rattle.step_values.specs.Slots.{node_value};
-ghost use Rattle.rule_plans.specs.Coded.{
+ghost use Rattle.step_values.specs.steps.Slots.{node_value};
+ghost use Rattle.rule_plans.specs.steps.Coded.{
   is_whole,
   coded_itself,
   coded_values,
@@ -11,16 +11,16 @@ ghost use Rattle.rule_plans.specs.Coded.{
   coded_elements,
   coded_inside,
 };
-ghost use Rattle.rule_plans.specs.Seeking.{Adds};
+ghost use Rattle.rule_plans.specs.steps.Seeking.{Adds};
 
-use crate::found::{Found, add};
-use crate::sought::{Seeker, Sought};
-use schema_bases::base::Base;
+use crate::found_values::{Found, add};
+use crate::value_search::{Seeker, Sought};
+use schema_underlying_types::base::Base;
 use std::alloc::AllocError;
 use step_values::slot::{Kind, Node, Slot, Slots};
 
-/// Whether a value of this kind is one of its data type: it is neither left out nor derived, and a
-/// value inside a typed one is of the type that is named there.
+/// Whether a value of this kind is one of its data type. An unset or derived value isn't, and the
+/// content of a typed value is of the type that is named there.
 fn is_whole(kind: Kind) -> bool
     ensures { result ≡ is_whole kind }
 {
@@ -31,7 +31,7 @@ fn is_whole(kind: Kind) -> bool
     }
 }
 
-/// Adds the value itself, where it is sought.
+/// Adds `value` itself if it is of the wanted type `declared`, if any.
 fn add_itself<'p, 'r>(
     seeker: &Seeker<'_, '_, '_, 'r, 'p>,
     found: &mut Found<'p, 'r>,
@@ -39,7 +39,8 @@ fn add_itself<'p, 'r>(
     base: &'p Base,
     value: Slot<'p, 'r>,
 ) -> Result<(), AllocError>
-    ensures { OnOk result (Adds (coded_itself seeker.now declared base.now value.entry) found.old found.new) }
+    ensures { OnOk result (Adds (coded_itself seeker.now declared base.now value.entry) found.old
+        found.new) }
 {
     let Some(number) = declared else {
         return Ok(());
@@ -50,8 +51,9 @@ fn add_itself<'p, 'r>(
     add(found, number, seeker.types, base, value)
 }
 
-/// Adds the values that are sought in a value: itself, elements, and what stands inside typed
-/// values. It is worth what it is by its base.
+/// Adds the values of wanted types in `value`: itself, its elements and the content of typed
+/// values. `sought` is its data type for the search, and its datum is that of a value of the type
+/// `base`.
 #[cycle(walk)]
 pub(crate) fn add_values<'p, 'r>(
     seeker: &Seeker<'_, '_, '_, 'r, 'p>,
@@ -60,14 +62,15 @@ pub(crate) fn add_values<'p, 'r>(
     base: &'p Base,
     value: Slot<'p, 'r>,
 ) -> Result<(), AllocError>
-    ensures { OnOk result (Adds (coded_values seeker.now sought base.now value.entry) found.old found.new) }
+    ensures { OnOk result (Adds (coded_values seeker.now sought base.now value.entry) found.old
+        found.new) }
 {
     let node = value.node();
     add_itself(seeker, found, sought.declared, base, value)?;
     add_inside(seeker, found, sought, base, node)
 }
 
-/// .. those inside its outermost part.
+/// Adds the values of wanted types inside a value whose outermost part is `node`.
 #[cycle(walk)]
 fn add_inside<'p, 'r>(
     seeker: &Seeker<'_, '_, '_, 'r, 'p>,
@@ -76,7 +79,8 @@ fn add_inside<'p, 'r>(
     base: &'p Base,
     node: Node<'p, 'r>,
 ) -> Result<(), AllocError>
-    ensures { OnOk result (Adds (coded_inside seeker.now sought base.now (node_value node.entry)) found.old found.new) }
+    ensures { OnOk result (Adds (coded_inside seeker.now sought base.now (node_value node.entry))
+        found.old found.new) }
 {
     match node {
         Node::Unset | Node::Derived | Node::Number(_) | Node::Text(_) => Ok(()),
@@ -90,7 +94,7 @@ fn add_inside<'p, 'r>(
     }
 }
 
-/// .. those in the elements of an aggregate.
+/// Adds the values of wanted types in the elements of an aggregate.
 #[cycle(walk)]
 fn add_elements<'p, 'r>(
     seeker: &Seeker<'_, '_, '_, 'r, 'p>,
@@ -99,7 +103,8 @@ fn add_elements<'p, 'r>(
     base: &'p Base,
     values: &Slots<'p, 'r>,
 ) -> Result<(), AllocError>
-    ensures { OnOk result (Adds (coded_elements seeker.now sought base.now values.now) found.old found.new) }
+    ensures { OnOk result (Adds (coded_elements seeker.now sought base.now values.now) found.old
+        found.new) }
 {
     let within = seeker.elements_of(sought);
     add_each(
@@ -111,7 +116,7 @@ fn add_elements<'p, 'r>(
     )
 }
 
-/// .. those in each of these values.
+/// Adds the values of wanted types in each of `values`.
 #[cycle(walk)]
 fn add_each<'p, 'r>(
     seeker: &Seeker<'_, '_, '_, 'r, 'p>,
@@ -120,7 +125,8 @@ fn add_each<'p, 'r>(
     base: &'p Base,
     values: &Slots<'p, 'r>,
 ) -> Result<(), AllocError>
-    ensures { OnOk result (Adds (coded_each seeker.now sought base.now values.now) found.old found.new) }
+    ensures { OnOk result (Adds (coded_each seeker.now sought base.now values.now) found.old
+        found.new) }
 {
     for i in 0..values.len() {
         add_values(seeker, found, sought, base, values.at(i))?;

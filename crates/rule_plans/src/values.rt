@@ -18,19 +18,19 @@ ghost use Rattle.std.specs.Prelude.{
   IfOk,
   OnOk,
 };
-ghost use Rattle.step_values.specs.Slots.{nth};
+ghost use Rattle.step_values.specs.steps.Slots.{nth};
 ghost use Rattle.schema_semantics.specs.Names.{Name};
 ghost use Rattle.schema_names.specs.Numbers.{HasNumber};
 ghost use Rattle.schema_names.specs.Schemas.{the_schema};
-ghost use Rattle.schema_bases.specs.Making.{entry};
-ghost use Rattle.schema_bases.specs.Seen.{name_at};
-ghost use Rattle.schema_uses.specs.Uses.{of_place, uses_at};
-ghost use Rattle.conformance.specs.Fitting.{among};
+ghost use Rattle.schema_underlying_types.specs.BaseEntries.{entry};
+ghost use Rattle.schema_underlying_types.specs.BaseViews.{name_at};
+ghost use Rattle.schema_redeclarations.specs.Uses.{of_place, uses_at};
+ghost use Rattle.conformance.specs.ParameterFits.{is_listed};
 ghost use Rattle.conformance.specs.Populations.{Instance};
-ghost use Rattle.population_typed.specs.Seen.{population_seen};
-ghost use Rattle.population_typed.specs.Whole.{form_among, types_by_form};
+ghost use Rattle.typed_populations.specs.PopulationViews.{population_seen};
+ghost use Rattle.typed_populations.specs.PopulationTables.{form_among, types_by_form};
 ghost use Rattle.rule_settings.specs.Settings.{IsSetting, Meant, schema_in, population_in};
-ghost use Rattle.rule_plans.specs.Coded.{
+ghost use Rattle.rule_plans.specs.steps.Coded.{
   Told,
   is_wanted,
   slots_in,
@@ -39,36 +39,36 @@ ghost use Rattle.rule_plans.specs.Coded.{
   coded_place,
   coded_slots,
 };
-ghost use Rattle.rule_plans.specs.Flat.{is_flat_at};
-ghost use Rattle.rule_plans.specs.Seeking.{Agrees, Covers, those, told_in, Adds};
-ghost use Rattle.rule_plans.specs.Speaking.{is_of, values_of, AreFound, TypesTell};
-ghost use Rattle.rule_plans.specs.Unsought.{is_unsought_place, AreUnsought, AreRight, IsRight};
+ghost use Rattle.rule_plans.specs.steps.Flat.{is_flat_at};
+ghost use Rattle.rule_plans.specs.steps.Seeking.{Agrees, Covers, those, told_in, Adds};
+ghost use Rattle.rule_plans.specs.steps.Speaking.{is_of, values_of, AreFound, TypesTell};
+ghost use Rattle.rule_plans.specs.steps.Unsought.{is_unsought_place, AreUnsought, AreRight, IsRight};
 
-use crate::flat::is_flat_at;
-use crate::found::{Found, Typed};
-use crate::sought::{Seeker, Sought};
+use crate::flat_values::is_flat_at;
+use crate::found_values::{Found, Typed};
+use crate::skipped_attributes::{Unsought, says_form, table_by};
 use crate::typed_values::add_values;
-use crate::unsought::{Unsought, says_form, table_by};
+use crate::value_search::{Seeker, Sought};
 use population_rows::form::{Form, SlotForm};
-use population_typed::population::Population;
 use rule_settings::setting::Setting;
-use schema_bases::base::Base;
-use schema_uses::uses::{AttributeUse, Uses};
+use schema_redeclarations::uses::{AttributeUse, Uses};
+use schema_underlying_types::base::Base;
 use std::alloc::{AllocError, Global};
 use step_values::slot::Slots;
+use typed_populations::population::Population;
 
-/// What the data types of an instance's values are told by.
+/// The tables that give the data types of an instance's values.
 #[derive(Drop)]
 pub(crate) struct Asked<'n> {
-    /// What the entities of the schema say of attributes.
+    /// The declarations of attributes by the entities of the schema.
     pub uses: &'n Uses,
-    /// By number of an explicit attribute, what its declaration asks of its values.
+    /// The underlying type with which each explicit attribute is declared, by number.
     pub declared: &'n [Base],
     /// The types of the instance.
     pub types: &'n [u32],
 }
 
-/// What an instance of the form of a number is of.
+/// Returns the types of instances of the form with this number; empty if there is none.
 fn types_at(forms: &[Form], form: Option<u32>) -> &[u32]
     ensures { result.now ≡ types_by_form (form_among forms.now form) }
 {
@@ -81,7 +81,7 @@ fn types_at(forms: &[Form], form: Option<u32>) -> &[u32]
     }
 }
 
-/// The attributes that it has.
+/// Returns the attributes of instances of the form with this number; empty if there is none.
 fn slots_at(forms: &[Form], form: Option<u32>) -> &[SlotForm]
     ensures { result.now ≡ slots_in (form_among forms.now form) }
 {
@@ -94,7 +94,7 @@ fn slots_at(forms: &[Form], form: Option<u32>) -> &[SlotForm]
     }
 }
 
-/// What the declaration of an attribute asks of its values.
+/// Returns the underlying type with which the explicit attribute numbered `place` is declared.
 pub(crate) fn declared_at(declared: &[Base], place: u32) -> &Base
     ensures { result.now ≡ entry declared.now place }
 {
@@ -104,7 +104,8 @@ pub(crate) fn declared_at(declared: &[Base], place: u32) -> &Base
     }
 }
 
-/// The declarations of explicit attributes by an entity; none where it is no number of one.
+/// Returns the declarations of explicit attributes by the entity numbered `number`; empty if it
+/// isn't the number of an entity.
 pub(crate) fn uses_at(uses: &Uses, number: u32) -> &[AttributeUse]
     ensures { result.now ≡ uses_at uses.now number }
 {
@@ -114,7 +115,7 @@ pub(crate) fn uses_at(uses: &Uses, number: u32) -> &[AttributeUse]
     }
 }
 
-/// Adds the values that are sought in the value at a position, where there is one.
+/// Adds the values of wanted types in the value at `position`, if any.
 fn add_at<'p, 'r>(
     seeker: &Seeker<'_, '_, '_, 'r, 'p>,
     found: &mut Found<'p, 'r>,
@@ -132,7 +133,8 @@ fn add_at<'p, 'r>(
     }
 }
 
-/// .. by the data type of a declaration, where it is one of the attribute of a place.
+/// Adds the values of wanted types in the value at `position`, by the data type of `each`, if that
+/// declares the explicit attribute numbered `place`.
 fn add_use<'p, 'r>(
     seeker: &Seeker<'_, '_, '_, 'r, 'p>,
     found: &mut Found<'p, 'r>,
@@ -153,7 +155,8 @@ fn add_use<'p, 'r>(
     }
 }
 
-/// .. by those of the declarations by an entity.
+/// Adds the values of wanted types in the value at `position`, by the data types with which `uses`
+/// declare the explicit attribute numbered `place`.
 fn add_uses<'p, 'r>(
     seeker: &Seeker<'_, '_, '_, 'r, 'p>,
     found: &mut Found<'p, 'r>,
@@ -172,7 +175,8 @@ fn add_uses<'p, 'r>(
     Ok(())
 }
 
-/// .. by those of the declarations by the types of the instance.
+/// Adds the values of wanted types in the value at `position`, by the data types with which the
+/// types of the instance declare the explicit attribute numbered `place`.
 fn add_place<'p, 'r>(
     seeker: &Seeker<'_, '_, '_, 'r, 'p>,
     found: &mut Found<'p, 'r>,
@@ -193,8 +197,8 @@ fn add_place<'p, 'r>(
     Ok(())
 }
 
-/// Whether a table says of the attribute at a position that values of its data types aren't sought,
-/// and nothing deeper stands there.
+/// Whether the value at `position` is skipped: `unsought` marks its attribute, and the value is
+/// flat.
 fn is_passed(unsought: &[bool], values: &Slots<'_, '_>, position: usize) -> bool
     ensures { result ≡ (is_wanted unsought.now position && is_flat_at (nth values.now position)) }
 {
@@ -204,8 +208,8 @@ fn is_passed(unsought: &[bool], values: &Slots<'_, '_>, position: usize) -> bool
     }
 }
 
-/// Adds the values that are sought in the value at a position, which is one of the attribute of a
-/// place.
+/// Adds the values of wanted types in the value at `position`, which is that of the explicit
+/// attribute numbered `place`, unless the value is skipped.
 fn add_slot<'p, 'r>(
     seeker: &Seeker<'_, '_, '_, 'r, 'p>,
     found: &mut Found<'p, 'r>,
@@ -226,8 +230,7 @@ fn add_slot<'p, 'r>(
     add_place(seeker, found, asked, values, position, place)
 }
 
-/// Adds the values that are sought in the values of an instance, which are those of these
-/// attributes.
+/// Adds the values of wanted types in `values`, which are those of the attributes `slots`.
 fn add_slots<'p, 'r>(
     seeker: &Seeker<'_, '_, '_, 'r, 'p>,
     found: &mut Found<'p, 'r>,
@@ -236,7 +239,8 @@ fn add_slots<'p, 'r>(
     values: &Slots<'p, 'r>,
     unsought: &[bool],
 ) -> Result<(), AllocError>
-    requires { AreUnsought seeker.now asked.now.uses.now asked.now.types.now slots.now unsought.now }
+    requires { AreUnsought seeker.now asked.now.uses.now asked.now.types.now slots.now
+        unsought.now }
     ensures { OnOk result (Adds (coded_slots seeker.now asked.now slots.now values.now) found.old
         found.new) }
 {
@@ -246,7 +250,7 @@ fn add_slots<'p, 'r>(
     Ok(())
 }
 
-/// Adds the values of some defined types that the instance of a row has.
+/// Adds the values of wanted types at the instance of `row`.
 fn add_values_of<'p, 'e, 'r, 't, 's: 'r, 'a: 'r>(
     setting: &Setting<'s, 't, 'r, 'a, 'e, 'p>,
     found: &mut Found<'p, 'r>,
@@ -282,24 +286,23 @@ fn add_values_of<'p, 'e, 'r, 't, 's: 'r, 'a: 'r>(
     add_slots(&seeker, found, &asked, slots, &instance.values, table)
 }
 
-/// Whether the instance of a row is of an entity.
+/// Whether the instance of `row` is of `entity`.
 pub fn is_of_entity(population: &Population<'_, '_, '_, '_>, row: usize, entity: u32) -> bool
     requires within { row < length (population_seen population.now) }
     requires numbered { HasNumber (the_schema population.now.types.now.names)
         (name_at (the_schema population.now.types.now.names) entity) entity }
     ensures { (x : Instance) → slice_get (population_seen population.now) row ≡ Some x
-        → result ≡ among (name_at (the_schema population.now.types.now.names) entity) x.types }
+        → result ≡ is_listed (name_at (the_schema population.now.types.now.names) entity) x.types }
 {
     let instance = population.instance(row);
     types_at(population.forms(), instance.form).contains(&entity)
 }
 
-/// The values of defined types that the instance of a row has, at any depth, in order, each with
-/// the number of its type: those of the types that are wanted, by number of a declaration. The
-/// rule of a defined type is tried for those of its number, and of those of types that are defined
-/// by it, where all these are wanted (ISO 10303-11, 9.1).
+/// Returns the values of wanted types at the instance of `row`, at any depth and in order, each
+/// with the number of its type. `wanted` says for each declaration whether it is wanted.
 ///
-/// An error says that memory ran out.
+/// The rule of a defined type is tried for the values of that type and of the types that are
+/// defined by it, if all these types are wanted (ISO 10303-11, 9.1).
 pub fn self_values<'p, 'e, 'r, 't, 's: 'r, 'a: 'r>(
     alloc: Global,
     setting: &Setting<'s, 't, 'r, 'a, 'e, 'p>,
@@ -324,8 +327,8 @@ pub fn self_values<'p, 'e, 'r, 't, 's: 'r, 'a: 'r>(
     Ok(values)
 }
 
-/// The numbers of the defined types of the values that are found at the instance of a row, attribute
-/// by attribute.
+/// Returns the numbers of the wanted types of the values at the instance of `row`, and skips
+/// attributes that `unsought` marks.
 fn types_found<'p, 'e, 'r, 't, 's: 'r, 'a: 'r>(
     alloc: Global,
     setting: &Setting<'s, 't, 'r, 'a, 'e, 'p>,
@@ -337,7 +340,8 @@ fn types_found<'p, 'e, 'r, 't, 's: 'r, 'a: 'r>(
     requires within { row < length (population_in setting.now) }
     requires unsought { AreRight setting.now wanted.now (map (λ v. v.items) unsought.now) }
     ensures { IfOk result (λ v. (m : Meant setting.now) → (x : Instance)
-        → slice_get (population_in setting.now) row ≡ Some x → TypesTell setting.now m x wanted.now v.items) }
+        → slice_get (population_in setting.now) row ≡ Some x
+        → TypesTell setting.now m x wanted.now v.items) }
 {
     let mut found = Found {
         keeps: false,
@@ -349,11 +353,10 @@ fn types_found<'p, 'e, 'r, 't, 's: 'r, 'a: 'r>(
     Ok(types)
 }
 
-/// The numbers of the defined types of such values, each once: there is none for the rules of a type
-/// where none of these numbers is that of the type or of one that is defined by it. The tables are
-/// those of `unsought_by_form`; without them, all attributes are looked at.
-///
-/// An error says that memory ran out.
+/// Returns the numbers of the wanted types of the values at the instance of `row`, each once. The
+/// rule of a defined type has no value to be tried for if neither that type nor a type that is
+/// defined by it is returned. `unsought` has the tables of `unsought_by_form`; if they are empty,
+/// all attributes are searched.
 pub fn value_types<'p, 'e, 'r, 't, 's: 'r, 'a: 'r>(
     alloc: Global,
     setting: &Setting<'s, 't, 'r, 'a, 'e, 'p>,
@@ -363,10 +366,12 @@ pub fn value_types<'p, 'e, 'r, 't, 's: 'r, 'a: 'r>(
 ) -> Result<Vec<u32>, AllocError>
     requires setting { IsSetting setting.now }
     requires within { row < length (population_in setting.now) }
-    requires unsought { AreRight setting.now wanted.now (map (λ v. v.items) unsought.now.attributes.items) }
+    requires unsought { AreRight setting.now wanted.now
+        (map (λ v. v.items) unsought.now.attributes.items) }
     requires forms { IsRight setting.now wanted.now unsought.now.forms.items }
     ensures { IfOk result (λ v. (m : Meant setting.now) → (x : Instance)
-        → slice_get (population_in setting.now) row ≡ Some x → TypesTell setting.now m x wanted.now v.items) }
+        → slice_get (population_in setting.now) row ≡ Some x
+        → TypesTell setting.now m x wanted.now v.items) }
 {
     let instance = setting.extents.population.instance(row);
     if says_form(&unsought.forms, instance.form) {

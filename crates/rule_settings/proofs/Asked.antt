@@ -8,14 +8,14 @@ use Rattle.conformance.specs.Bases.{Domain}
 use Rattle.conformance.specs.Entities.{Entities}
 use Rattle.conformance.specs.Populations.{Instance, instance_at, types_in, types_at, value_in, value_of}
 use Rattle.conformance.specs.Rules.{InverseAttribute}
-use Rattle.conformance.specs.Referring.{inverse_value}
+use Rattle.conformance.specs.Referrers.{inverse_value}
 use Rattle.express_logic.specs.Data.{Datum}
 use Rattle.conformance.specs.Attributes.{Source, explicit, derived, unclear, Attributes, AreAttributes, IsNamed, IsInGroup}
 use Rattle.conformance.specs.Meanings.{referring, found, value_from, attribute_in, group_in}
 use Rattle.conformance.specs.Values.{datum_at, first_declared}
 use Rattle.conformance.proofs.Led.{at_name}
-use Rattle.schema_sources.specs.Seen.{or_unclear}
-use Rattle.rule_settings.specs.Worth.{inverse_worth, IsWorth}
+use Rattle.schema_attribute_sources.specs.SourceViews.{or_unclear}
+use Rattle.rule_settings.specs.steps.Worth.{inverse_worth, IsWorth}
 
 module _ (s : Schema) (d : Domain) (en : Entities) (attributes : Attributes) (is : List Instance) (computed : ℕ → Derivation → Datum) where
   pub derived_found : (y : ℕ) (e : Derivation)

@@ -9,21 +9,21 @@ use Rattle.schema_semantics.specs.Attributes.{Place}
 use Rattle.schema_semantics.specs.Faults.{IsResolved}
 use Rattle.schema_semantics.specs.Names.{Name}
 use Rattle.schema_semantics.proofs.Lists.{among-map, among-flat, every-at}
-use Rattle.schema_places.specs.Places.{all_places}
+use Rattle.schema_explicit_attributes.specs.Places.{all_places}
 use Rattle.conformance.specs.Bases.{Domain, IsDomain, base}
 use Rattle.conformance.specs.Entities.{Entities, AreEntities, data_types, declarations_by, is_derived, is_optional}
 use Rattle.conformance.specs.Populations.{Slot, Instance, instance_at, first_base, value_in, value_of}
 use Rattle.conformance.specs.Conforming.{ValueFits, SlotFits, Conforms, typing_of, PopulationConforms}
 use Rattle.conformance.specs.Fits.{Fits}
-use Rattle.schema_bases.specs.declared.base.Base.{Base}
-use Rattle.schema_bases.specs.Seen.{base_seen}
-use Rattle.schema_bases.specs.Tables.{IsNumbered}
-use Rattle.schema_rules.specs.Seen.{or_nowhere, place_at}
+use Rattle.schema_underlying_types.specs.declared.base.Base.{Base}
+use Rattle.schema_underlying_types.specs.BaseViews.{base_seen}
+use Rattle.schema_underlying_types.specs.Tables.{IsNumberedBase}
+use Rattle.schema_constraints.specs.RuleViews.{or_nowhere, place_at}
 use Rattle.conformance.specs.Values.{datum, datum_at, first_declared}
 use Rattle.conformance.proofs.Closed.{declares_so}
 use Rattle.conformance.proofs.Led.{at_name, at_place}
 use Rattle.rule_values.specs.declared.types.ValueTypes.{ValueTypes}
-use Rattle.rule_values.specs.Coded.{coded_datum}
+use Rattle.rule_values.specs.TableValues.{coded_datum}
 use Rattle.rule_values.specs.Tables.{AreValueTypes}
 use Rattle.rule_values.proofs.Worth.{all-worth}
 use Rattle.rule_names.specs.Tables.{AreDeclared, IsDeclaredAs}
@@ -68,7 +68,7 @@ module _ (s : Schema) (d : Domain) (en : Entities) (are : AreEntities s en) wher
           )
 
   module _ (r : IsResolved s) (is_domain : IsDomain s d) (t : ValueTypes) (tabled : AreValueTypes s t) (is : List Instance) where
-    value_worth : (derived optional : Bool) (ks : List DataType) (v : Value) (k : DataType) (b : Base) → IsNumbered s b
+    value_worth : (derived optional : Bool) (ks : List DataType) (v : Value) (k : DataType) (b : Base) → IsNumberedBase s b
         → base_seen s b ≡ base d k → Among k ks → ValueFits s d (typing_of is) derived optional ks v
         → coded_datum t b v ≡ datum s d (base_seen s b) v
     value_worth true optional ks v k b known seen m h =
@@ -82,7 +82,7 @@ module _ (s : Schema) (d : Domain) (en : Entities) (are : AreEntities s en) wher
 
     -- a value of an instance that conforms
     slot_worth : (x : Instance) → Conforms s d (typing_of is) en x → (z : Slot) → Among z x.slots → (b : Base)
-        → IsNumbered s b → base_seen s b ≡ first_declared s d en z.place
+        → IsNumberedBase s b → base_seen s b ≡ first_declared s d en z.place
         → coded_datum t b z.value ≡ datum s d (base_seen s b) z.value
     slot_worth x c z m b known seen =
         let place = (c.attributes z.place.0 z.place.1).0 (among-map (λ (u : Slot). u.place) z x.slots m) in
@@ -93,7 +93,7 @@ module _ (s : Schema) (d : Domain) (en : Entities) (are : AreEntities s en) wher
 
     -- the value that an instance has at a place
     pub worth_at : PopulationConforms s d en is → (y : ℕ) (p : Place) (v : Value) → value_of is y p ≡ Some v → (b : Base)
-        → IsNumbered s b → base_seen s b ≡ first_declared s d en p
+        → IsNumberedBase s b → base_seen s b ≡ first_declared s d en p
         → coded_datum t b v ≡ datum_at s d (first_declared s d en p) (value_of is y p)
     worth_at conforms y p v e b known seen =
         by (instance_at is y) refl e ∙ ap (λ c. datum s d c v) seen ∙ sym (ap (datum_at s d (first_declared s d en p)) e)

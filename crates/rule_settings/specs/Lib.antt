@@ -1,3 +1,2 @@
 pub mod Settings
-pub mod Worth
-pub mod Sources
+pub mod steps

@@ -1,4 +1,4 @@
--- What expressions can ask, of the program's tables.
+-- What expressions can look up, by the tables of the program.
 use Rattle.std.specs.Prelude.{◌≡◌, ℕ, Bool, List, Option, Some, None}
 use Rattle.step_literals.specs.declared.literal.items.Item.{Item}
 use Rattle.express_syntax.specs.Schemas.{Schema}
@@ -6,20 +6,20 @@ use Rattle.schema_semantics.specs.Names.{Name}
 use Rattle.schema_semantics.specs.Attributes.{Derivation}
 use Rattle.schema_names.specs.Numbers.{HasNumber}
 use Rattle.schema_names.specs.Schemas.{the_schema}
-use Rattle.schema_bases.specs.Seen.{name_at}
+use Rattle.schema_underlying_types.specs.BaseViews.{name_at}
 use Rattle.conformance.specs.Populations.{Instance}
 use Rattle.conformance.specs.Conforming.{PopulationConforms}
 use Rattle.conformance.specs.Rules.{InverseAttribute}
-use Rattle.population_typed.specs.Seen.{population_seen}
+use Rattle.typed_populations.specs.PopulationViews.{population_seen}
 use Rattle.express_logic.specs.Data.{Datum, indeterminate}
-use Rattle.conformance.specs.Said.{Said}
+use Rattle.conformance.specs.SchemaMeanings.{Said}
 use Rattle.conformance.specs.Expressions as expressions
 use Rattle.conformance.specs.Meanings.{setting, below}
-use Rattle.schema_sources.specs.declared.source.Derivation.{Derivation as NumberedDerivation}
-use Rattle.schema_sources.specs.Seen.{inverses_seen, derivation_seen}
-use Rattle.schema_sources.specs.Tables.{IsKnown}
+use Rattle.schema_attribute_sources.specs.declared.source.Derivation.{Derivation as NumberedDerivation}
+use Rattle.schema_attribute_sources.specs.SourceViews.{inverses_seen, derivation_seen}
+use Rattle.schema_attribute_sources.specs.Tables.{AreResolvedSources}
 use Rattle.rule_sources.specs.Sources.{AreFormSources}
-use Rattle.schema_derivations.specs.Formulas.{AreFormulasOf}
+use Rattle.schema_derived_attributes.specs.Formulas.{AreFormulasOf}
 use Rattle.rule_names.specs.Tables.{AreSettingTables}
 use Rattle.rule_settings.specs.declared.setting.Setting.{Setting}
 use Rattle.rule_settings.specs.declared.attributes.Found.{Found}
@@ -39,18 +39,18 @@ derivation_in S e = derivation_seen (schema_in S) e
 
 -- The tables are those of the schema of the population.
 pub record IsSetting (S : Setting) : Type 0 where
-  pub known : IsKnown S.extents.now.population.now.types.now S.tables.now.sources S.extents.now.rules.now.inverses.items
+  pub known : AreResolvedSources S.extents.now.population.now.types.now S.tables.now.sources S.extents.now.rules.now.inverses.items
   pub tables : AreSettingTables S.extents.now.population.now.types.now S.tables.now
   pub forms : AreFormSources (schema_in S) (inverses_in S) S.extents.now.population.now.rows.forms.items S.forms.now
   pub formulas : AreFormulasOf (schema_in S) S.formulas.now
 
--- What the schema says, whose inverse attributes are those of the tables, and that the population conforms to it.
+-- The meaning of the schema, whose inverse attributes are those of the tables. The population conforms to the schema.
 pub record Meant (S : Setting) : Type 0 where
   pub said : Said (schema_in S)
   pub inverses_are : said.rules.inverses ≡ inverses_in S
   pub conforms : PopulationConforms (schema_in S) said.domain said.entities (population_in S)
 
--- what is found, where derived attributes are worth this, and this value is put where it was asked for
+-- the value that a look-up gives: the one that is stored, or that of a derived attribute, which `computed` gives
 abbrev pub worth_of : Setting → (Derivation → Datum) → Datum → Found → Option Datum
 worth_of S computed d found.Missing = None
 worth_of S computed d found.Value = Some d
@@ -60,13 +60,13 @@ abbrev pub or_nothing : Option Datum → Datum
 or_nothing None = indeterminate
 or_nothing (Some d) = d
 
--- the number of a derived attribute is that of an entity
+-- a derived attribute that is found belongs to a declaration with the name at its number
 abbrev pub IsFound : Setting → Found → Type 0
 IsFound S (found.Derived e) = HasNumber (schema_in S) (name_at (schema_in S) e.entity) e.entity
 IsFound S x = Unit {0}
 
 module _ (S : Setting) (m : Meant S) where
-  -- what an expression can ask, where derived attributes of instances are worth this
+  -- what an expression can look up, if `computed` gives the values of derived attributes
   abbrev pub setting_by : (ℕ → Derivation → Datum) → expressions.Setting
   setting_by computed = setting (schema_in S) m.said.domain m.said.entities m.said.attributes (population_in S) computed
 
@@ -76,7 +76,7 @@ module _ (S : Setting) (m : Meant S) where
   abbrev pub group_by : (ℕ → Derivation → Datum) → ℕ → Name → Name → Datum
   group_by computed y e a = (setting_by computed).attribute_of y e a
 
-  -- whatever derived attributes are worth
+  -- derived attributes without values, for what doesn't depend on them
   abbrev nothing : ℕ → Derivation → Datum
   nothing y e = indeterminate
 

@@ -3,15 +3,15 @@
 ghost use Rattle.std.specs.Prelude.{◌≡◌, ◌<◌, ℕ, Some, length, slice_get};
 ghost use Rattle.express_syntax.specs.ExpressionViews.{capitals};
 ghost use Rattle.schema_semantics.specs.Attributes as attributes;
-ghost use Rattle.schema_places.specs.Places.{all_places};
-ghost use Rattle.population_typed.specs.Ordering.{position_among};
-ghost use Rattle.schema_rules.specs.Seen.{gathering_seen, place_at};
+ghost use Rattle.schema_explicit_attributes.specs.Places.{all_places};
+ghost use Rattle.typed_populations.specs.ValueOrder.{position_among};
+ghost use Rattle.schema_constraints.specs.RuleViews.{gathering_seen, place_at};
 ghost use Rattle.express_logic.specs.Data.{Datum as Worth, aggregate, bag};
 ghost use Rattle.express_logic.specs.Views.{datum_of};
-ghost use Rattle.conformance.specs.Meanings.{instances, referring};
+ghost use Rattle.conformance.specs.Meanings.{instance_data, referring};
 ghost use Rattle.conformance.specs.Operations.{only};
 ghost use Rattle.rule_values.specs.Parts.{holding};
-ghost use Rattle.schema_sources.specs.Seen.{IsNumbered};
+ghost use Rattle.schema_attribute_sources.specs.SourceViews.{IsNumberedSource};
 ghost use Rattle.rule_sources.specs.Sources.{source_in, form_source};
 ghost use Rattle.conformance.specs.Populations.{value_of};
 ghost use Rattle.rule_settings.specs.Settings.{
@@ -26,33 +26,33 @@ ghost use Rattle.rule_settings.specs.Settings.{
   or_nothing,
   IsFound,
 };
-ghost use Rattle.rule_settings.specs.Sources.{explicit_worth, row_in, slots_in, IsFoundAt};
-ghost use Rattle.rule_settings.specs.Worth.{inverse_worth};
+ghost use Rattle.rule_settings.specs.steps.Sources.{explicit_worth, row_in, slots_in, IsFoundAt};
+ghost use Rattle.rule_settings.specs.steps.Worth.{inverse_worth};
 
 use crate::setting::Setting;
 use express_logic::datum::Datum;
 use rule_sources::sources::FormSource;
 use rule_values::part::Part;
 use rule_values::values::{only_instance, value_datum};
-use schema_bases::base::Base;
-use schema_rules::gathering::Gathering;
-use schema_sources::source::{Derivation, Source};
-use schema_sources::sources::{attribute_source, group_source};
+use schema_attribute_sources::source::{Derivation, Source};
+use schema_attribute_sources::sources::{attribute_source, group_source};
+use schema_constraints::inverse_collections::Gathering;
+use schema_underlying_types::base::Base;
 use step_literals::literal::Word;
 use step_values::slot::Slot;
 
-/// Where the value of an attribute of an instance is found.
+/// The result of looking up the value of an attribute of an instance.
 #[derive(Clone, Copy)]
 pub enum Found {
     /// The instance has no such attribute.
     Missing,
-    /// It is put where it was asked for.
+    /// The value is stored in the parameter `value`.
     Value,
-    /// It is derived.
+    /// The attribute is derived, so its value has to be computed.
     Derived(Derivation),
 }
 
-/// What stands at a number.
+/// Returns the element of `bases` at index `number`.
 fn base_at(bases: &[Base], number: u32) -> &Base
     requires { number < length bases.now }
     ensures { slice_get bases.now number ≡ Some result.now }
@@ -60,22 +60,22 @@ fn base_at(bases: &[Base], number: u32) -> &Base
     &bases[number as usize]
 }
 
-/// The only one of these instances; indeterminate where there are more, or none.
+/// Returns the instance if `names` has exactly one, otherwise indeterminate.
 fn alone<'p, 'r>(names: &'p [u64]) -> Datum<'r, Part<'p, 'r>>
-    ensures { datum_of holding result ≡ only (instances names.entry.now) }
+    ensures { datum_of holding result ≡ only (instance_data names.entry.now) }
 {
     only_instance(names)
 }
 
-/// These instances, in no order.
+/// Returns an aggregate of these instances, which have no order.
 fn together<'p, 'r>(names: &'p [u64]) -> Datum<'r, Part<'p, 'r>>
-    ensures { datum_of holding result ≡ aggregate bag (instances names.entry.now) }
+    ensures { datum_of holding result ≡ aggregate bag (instance_data names.entry.now) }
 {
     Datum::Aggregate(Part::instances(names))
 }
 
-/// The value of an inverse attribute by which these refer: a SET or a BAG of them, without either the
-/// only one (ISO 10303-11, 9.2.1.3).
+/// Returns the value of an inverse attribute, given the instances that refer: a SET or a BAG of
+/// them, or, if the attribute is neither, the only one (ISO 10303-11, 9.2.1.3).
 fn referring<'p, 'r>(gathering: Gathering, names: &'p [u64]) -> Datum<'r, Part<'p, 'r>>
     ensures { datum_of holding result ≡ referring (gathering_seen gathering) names.entry.now }
 {
@@ -87,7 +87,8 @@ fn referring<'p, 'r>(gathering: Gathering, names: &'p [u64]) -> Datum<'r, Part<'
 }
 
 impl<'s: 'r, 't, 'r, 'a: 'r, 'e, 'p> Setting<'s, 't, 'r, 'a, 'e, 'p> {
-    /// What this value of the explicit attribute of a number is worth, as its declaration asks.
+    /// Returns the datum of a value of the explicit attribute numbered `place`, by the type with
+    /// which the attribute is declared.
     fn declared_value(&self, place: u32, value: Option<Slot<'p, 'a>>) -> Datum<'r, Part<'p, 'r>>
         requires setting { IsSetting self.now }
         requires place { place < length (all_places (schema_in self.now)) }
@@ -109,7 +110,8 @@ impl<'s: 'r, 't, 'r, 'a: 'r, 'e, 'p> Setting<'s, 't, 'r, 'a, 'e, 'p> {
         }
     }
 
-    /// The value that an instance has of the explicit attribute of a number.
+    /// Returns the value of `instance` for the explicit attribute numbered `place`; indeterminate
+    /// if it has none.
     fn explicit_value(&self, instance: u64, place: u32) -> Datum<'r, Part<'p, 'r>>
         requires setting { IsSetting self.now }
         requires place { place < length (all_places (schema_in self.now)) }
@@ -119,7 +121,8 @@ impl<'s: 'r, 't, 'r, 'a: 'r, 'e, 'p> Setting<'s, 't, 'r, 'a, 'e, 'p> {
         self.declared_value(place, self.extents.population.value(instance, place))
     }
 
-    /// .. that the instance of a row has of it, where it stands at this position of its form.
+    /// Returns the value of the instance of `row` for the explicit attribute numbered `place`,
+    /// which is at `position` in its form; indeterminate if it has none.
     fn value_at(&self, row: u32, position: usize, place: u32) -> Datum<'r, Part<'p, 'r>>
         requires setting { IsSetting self.now }
         requires row { row < length (population_in self.now) }
@@ -131,7 +134,8 @@ impl<'s: 'r, 't, 'r, 'a: 'r, 'e, 'p> Setting<'s, 't, 'r, 'a, 'e, 'p> {
         self.declared_value(place, self.extents.population.value_at(row, position))
     }
 
-    /// The value that an instance has of the inverse attribute of a number.
+    /// Returns the value of `instance` for the inverse attribute numbered `number`; indeterminate
+    /// if there is no such attribute.
     fn inverse_value(&self, instance: u64, number: usize) -> Datum<'r, Part<'p, 'r>>
         ensures { datum_of holding result
             ≡ inverse_worth (population_in self.now) instance
@@ -149,12 +153,14 @@ impl<'s: 'r, 't, 'r, 'a: 'r, 'e, 'p> Setting<'s, 't, 'r, 'a, 'e, 'p> {
         }
     }
 
-    /// Puts what an instance has in a source there.
+    /// Looks up the value of `instance` in `source` and stores it in `value`, unless it is derived.
     fn found(&self, instance: u64, source: &Source, value: &mut Datum<'r, Part<'p, 'r>>) -> Found
         requires setting { IsSetting self.now }
-        requires numbered { IsNumbered (schema_in self.now) (inverses_in self.now) source.now }
+        requires numbered { IsNumberedSource (schema_in self.now)
+            (inverses_in self.now) source.now }
         ensures worth { (m : Meant self.now) → (computed : ℕ → attributes.Derivation → Worth)
-            → IsFoundAt self.now m computed instance source.now (datum_of holding value.new) result }
+            → IsFoundAt self.now m computed instance source.now
+            (datum_of holding value.new) result }
         ensures found { IsFound self.now result }
     {
         match source {
@@ -174,7 +180,8 @@ impl<'s: 'r, 't, 'r, 'a: 'r, 'e, 'p> Setting<'s, 't, 'r, 'a, 'e, 'p> {
         }
     }
 
-    /// .. in a source of the form of its row.
+    /// Looks up the value of `instance`, which is that of `row`, in a source of its form, and
+    /// stores it in `value`, unless it is derived.
     fn found_in_row(
         &self,
         instance: u64,
@@ -184,7 +191,7 @@ impl<'s: 'r, 't, 'r, 'a: 'r, 'e, 'p> Setting<'s, 't, 'r, 'a, 'e, 'p> {
     ) -> Found
         requires setting { IsSetting self.now }
         requires row { row_in self.now instance ≡ Some row }
-        requires numbered { IsNumbered (schema_in self.now) (inverses_in self.now)
+        requires numbered { IsNumberedSource (schema_in self.now) (inverses_in self.now)
             (source_in source.now) }
         requires position { source.now ≡ form_source (slots_in self.now row)
             (source_in source.now) }
@@ -202,7 +209,8 @@ impl<'s: 'r, 't, 'r, 'a: 'r, 'e, 'p> Setting<'s, 't, 'r, 'a, 'e, 'p> {
         }
     }
 
-    /// .. in that of the attribute of this name, by the types of the instance.
+    /// Looks up the attribute called `name` by the types of `instance`, and stores its value in
+    /// `value`, unless it is derived or there is no such attribute.
     #[inline(never)]
     fn declared_attribute(
         &self,
@@ -230,8 +238,8 @@ impl<'s: 'r, 't, 'r, 'a: 'r, 'e, 'p> Setting<'s, 't, 'r, 'a, 'e, 'p> {
         }
     }
 
-    /// Puts there the value that an instance has of its attribute of this name, where it has it and
-    /// it isn't derived (ISO 10303-11, 12.7.3). It takes no memory.
+    /// Looks up the attribute of `instance` called `name` (ISO 10303-11, 12.7.3), and stores its
+    /// value in `value`, unless it is derived or there is no such attribute. Allocates no memory.
     pub fn attribute(
         &self,
         instance: u64,
@@ -254,7 +262,9 @@ impl<'s: 'r, 't, 'r, 'a: 'r, 'e, 'p> Setting<'s, 't, 'r, 'a, 'e, 'p> {
         }
     }
 
-    /// .. of the attribute that `\entity.name` means (ISO 10303-11, 12.7.4). It takes no memory.
+    /// Looks up the attribute of `instance` that `\entity.name` refers to (ISO 10303-11, 12.7.4),
+    /// and stores its value in `value`, unless it is derived. The value is indeterminate if there
+    /// is no such attribute. Allocates no memory.
     pub fn attribute_of(
         &self,
         instance: u64,

@@ -3,17 +3,17 @@
 ghost use Rattle.std.specs.Prelude.{◌≡◌, length, slice_get};
 ghost use Rattle.std.specs.Option.{option_map, option_flatten};
 ghost use Rattle.schema_names.specs.Numbers.{HasNumber};
-ghost use Rattle.schema_bases.specs.Seen.{name_at};
-ghost use Rattle.schema_derivations.specs.Formulas.{formula_seen, formula_place};
+ghost use Rattle.schema_underlying_types.specs.BaseViews.{name_at};
+ghost use Rattle.schema_derived_attributes.specs.Formulas.{formula_seen, formula_place};
 ghost use Rattle.rule_settings.specs.Settings.{IsSetting, Meant, schema_in, derivation_in};
 
 use crate::setting::Setting;
-use schema_derivations::asked_formulas::formula_at;
-use schema_derivations::formula::Formula;
-use schema_sources::source::Derivation;
+use schema_attribute_sources::source::Derivation;
+use schema_derived_attributes::formula::Formula;
+use schema_derived_attributes::formula_lookup::formula_at;
 
 impl<'s: 'r, 't, 'r, 'a, 'e, 'p> Setting<'s, 't, 'r, 'a, 'e, 'p> {
-    /// How a derived attribute is computed; none where it is set aside.
+    /// Returns how a derived attribute is computed; `None` if the attribute is set aside.
     pub fn formula(&self, derivation: Derivation) -> Option<Formula<'s, 't>>
         requires setting { IsSetting self.now }
         ensures meant { (m : Meant self.now)

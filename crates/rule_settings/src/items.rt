@@ -9,7 +9,7 @@ use rule_names::items::is_item_of;
 use step_literals::literal::Word;
 
 impl<'s: 'r, 't, 'r, 'a, 'e, 'p> Setting<'s, 't, 'r, 'a, 'e, 'p> {
-    /// Whether an enumeration has an item of this name.
+    /// Whether an enumeration has an item called `name`.
     pub fn is_item(&self, name: Word<'_>) -> bool
         requires setting { IsSetting self.now }
         ensures { (m : Meant self.now) → result ≡ is_item_in self.now m (capitals name.entry) }
@@ -17,7 +17,7 @@ impl<'s: 'r, 't, 'r, 'a, 'e, 'p> Setting<'s, 't, 'r, 'a, 'e, 'p> {
         self.tables.items.has(name)
     }
 
-    /// Whether the defined type of this name stands for an enumeration that has an item of this name.
+    /// Whether the defined type called `declared` stands for an enumeration with the item `name`.
     pub fn is_item_of(&self, declared: Word<'_>, name: Word<'_>) -> bool
         requires setting { IsSetting self.now }
         ensures { (m : Meant self.now)

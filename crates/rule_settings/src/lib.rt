@@ -1,4 +1,4 @@
-//! What expressions can ask of a population and of its schema (ISO 10303-11, 12).
+//! What expressions can look up in a population and in its schema (ISO 10303-11, 12).
 #![tactic(auto)]
 
 pub mod attributes;

@@ -1,16 +1,16 @@
-//! A population, and what expressions ask of its schema.
+//! A population, and what expressions need to know of its schema.
 
+use population_inverses::extents::Extents;
 use rule_names::tables::SettingTables;
 use rule_sources::sources::FormSources;
-use schema_derivations::formula::Formulas;
-use step_extent::extents::Extents;
+use schema_derived_attributes::formula::Formulas;
 
-/// A population with all that an expression can ask of it and of its schema.
+/// A population with everything that an expression can look up in it and in its schema.
 #[derive(Drop)]
 pub struct Setting<'s, 't, 'r, 'a, 'e, 'p> {
     pub extents: &'p Extents<'s, 't, 'r, 'a, 'e>,
     pub tables: &'p SettingTables<'r, 's>,
-    /// By form of an instance, where the values of its attributes are.
+    /// Where instances of each form have the values of their attributes.
     pub forms: &'p FormSources<'s>,
     pub formulas: &'p Formulas<'s, 't>,
 }

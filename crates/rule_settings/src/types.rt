@@ -1,4 +1,4 @@
-//! The types of values, as TYPEOF gives them (ISO 10303-11, 15.25).
+//! The types of values that TYPEOF names (ISO 10303-11, 15.25).
 
 ghost use Rattle.std.specs.Prelude.{◌≡◌};
 ghost use Rattle.express_syntax.specs.ExpressionViews.{capitals};
@@ -11,17 +11,18 @@ use rule_names::types::{says_any, says_definition};
 use step_literals::literal::Word;
 
 impl<'s: 'r, 't, 'r, 'a, 'e, 'p> Setting<'s, 't, 'r, 'a, 'e, 'p> {
-    /// Whether a string names a type of an instance, as TYPEOF gives it.
+    /// Whether `text` names a type of `instance`, as TYPEOF does.
     pub fn has_type(&self, instance: u64, text: &AnyString<'_>) -> bool
         requires setting { IsSetting self.now }
-        ensures { (m : Meant self.now) → result ≡ has_type_in self.now m instance (text_of text.now) }
+        ensures { (m : Meant self.now) → result
+            ≡ has_type_in self.now m instance (text_of text.now) }
     {
         let population = self.extents.population;
         says_any(&population.types.names, population.types_of(instance), text)
     }
 
-    /// Whether a string names the defined type of this name, or one that it is defined by, as TYPEOF
-    /// gives it.
+    /// Whether `text` names the defined type called `name`, or one by which it is defined, as
+    /// TYPEOF does.
     pub fn is_defined_by(&self, name: Word<'_>, text: &AnyString<'_>) -> bool
         requires setting { IsSetting self.now }
         ensures { (m : Meant self.now)

@@ -4,10 +4,10 @@ use Rattle.std.proofs.Common.{refl, ap, ◌∙◌}
 use Rattle.population_rows.specs.declared.form.SlotForm.{SlotForm}
 use Rattle.population_rows.specs.declared.index.RowIndex.{RowIndex}
 use Rattle.population_rows.specs.Index.{found}
-use Rattle.form_positions.specs.Positions.{ArePositions}
-use Rattle.schema_sources.specs.declared.source.Source.{Source}
-use Rattle.schema_sources.specs.declared.source.Source.TheVariants.{Explicit, Derived, Inverse, Unclear}
-use Rattle.population_typed.specs.Ordering.{position_among}
+use Rattle.population_rows.specs.steps.Positions.{ArePositions}
+use Rattle.schema_attribute_sources.specs.declared.source.Source.{Source}
+use Rattle.schema_attribute_sources.specs.declared.source.Source.TheVariants.{Explicit, Derived, Inverse, Unclear}
+use Rattle.typed_populations.specs.ValueOrder.{position_among}
 use Rattle.rule_sources.specs.declared.sources.FormSource.TheVariants as at
 use Rattle.rule_sources.specs.Sources.{source_in, explicit_at, form_source}
 

@@ -9,28 +9,28 @@ use Rattle.population_rows.specs.declared.form.SlotForm.{SlotForm}
 use Rattle.population_rows.specs.declared.form.Form.{Form}
 use Rattle.conformance.specs.Rules.{InverseAttribute}
 use Rattle.conformance.specs.Attributes.{Attributes, AreAttributes}
-use Rattle.population_typed.specs.Ordering.{position_among}
-use Rattle.population_typed.specs.Whole.{slots_by_form, types_by_form}
-use Rattle.schema_sources.specs.declared.source.Source.{Source}
-use Rattle.schema_sources.specs.declared.source.Source.TheVariants as sources
-use Rattle.schema_sources.specs.Seen.{types_seen, source_seen, IsNumbered}
+use Rattle.typed_populations.specs.ValueOrder.{position_among}
+use Rattle.typed_populations.specs.PopulationTables.{slots_by_form, types_by_form}
+use Rattle.schema_attribute_sources.specs.declared.source.Source.{Source}
+use Rattle.schema_attribute_sources.specs.declared.source.Source.TheVariants as sources
+use Rattle.schema_attribute_sources.specs.SourceViews.{types_seen, source_seen, IsNumberedSource}
 use Rattle.rule_sources.specs.declared.sources.FormSource.{FormSource}
 use Rattle.rule_sources.specs.declared.sources.FormSource.TheVariants as at
 use Rattle.rule_sources.specs.declared.sources.NamedSource.{NamedSource}
 use Rattle.rule_sources.specs.declared.sources.FormSources.{FormSources}
 
--- This is where instances of these types have the value of their attribute of a name.
+-- The source x is where instances of these types have the value of their attribute called a.
 pub record IsSourceOf (s : Schema) (inverses : List InverseAttribute) (types : List ℕ) (a : Name) (x : Source) : Type 0 where
   pub value : (attributes : Attributes) → AreAttributes s inverses attributes
       → Some (source_seen s inverses x) ≡ attributes.source (types_seen s types) a
-  pub numbered : IsNumbered s inverses x
+  pub numbered : IsNumberedSource s inverses x
 
--- the source, wherever its value stands
+-- the source, without the position of the value
 abbrev pub source_in : FormSource → Source
 source_in (at.Explicit place position) = sources.Explicit place
 source_in (at.Other x) = x
 
--- the explicit attribute of a place, where it has this position
+-- the explicit attribute numbered place, with its position, if any
 abbrev pub explicit_at : ℕ → Option ℕ → FormSource
 explicit_at place None = at.Other (sources.Explicit place)
 explicit_at place (Some position) = at.Explicit place position
@@ -40,12 +40,12 @@ abbrev pub form_source : List SlotForm → Source → FormSource
 form_source slots (sources.Explicit place) = explicit_at place (position_among slots place)
 form_source slots x = at.Other x
 
--- This is where instances of this form have the value of their attribute of a name.
+-- The source x is where instances of this form have the value of their attribute called a.
 pub record IsFormSource (s : Schema) (inverses : List InverseAttribute) (form : Option Form) (a : Name) (x : FormSource) : Type 0 where
   pub source : IsSourceOf s inverses (types_by_form form) a (source_in x)
   pub position : x ≡ form_source (slots_by_form form) (source_in x)
 
--- .. of the name that stands beside it
+-- the source is that of the attribute with the name next to it
 abbrev pub IsNamedSource : Schema → List InverseAttribute → Form → NamedSource → Type 0
 IsNamedSource s inverses form e = IsFormSource s inverses (Some form) (capitals e.name) e.source
 

@@ -1,16 +1,16 @@
-//! The table of sources, made once for all instances of a form.
+//! The table of sources, built once for all instances of a form.
 
 ghost use Rattle.std.specs.Prelude.{◌≡◌, List, Some, IfOk, OnOk, IfSome};
 ghost use Rattle.express_syntax.specs.Schemas.{Schema};
 ghost use Rattle.express_syntax.specs.Profile.{Every};
 ghost use Rattle.express_syntax.specs.ExpressionViews.{capitals};
 ghost use Rattle.schema_names.specs.Schemas.{the_schema};
-ghost use Rattle.form_positions.specs.Positions.{ArePositions};
+ghost use Rattle.population_rows.specs.steps.Positions.{ArePositions};
 ghost use Rattle.population_rows.specs.declared.form.Form.{Form};
 ghost use Rattle.conformance.specs.Rules.{InverseAttribute as InverseTree};
-ghost use Rattle.population_typed.specs.Whole.{form_among, AreNumbered};
-ghost use Rattle.schema_sources.specs.Seen.{inverses_seen};
-ghost use Rattle.schema_sources.specs.Tables.{IsKnown};
+ghost use Rattle.typed_populations.specs.PopulationTables.{form_among, AreNumbered};
+ghost use Rattle.schema_attribute_sources.specs.SourceViews.{inverses_seen};
+ghost use Rattle.schema_attribute_sources.specs.Tables.{AreResolvedSources};
 ghost use Rattle.rule_sources.specs.Sources.{
   form_source,
   IsFormSource,
@@ -20,44 +20,46 @@ ghost use Rattle.rule_sources.specs.Sources.{
 };
 
 use express_syntax::tree::{Declaration, Derived, Inverse};
-use form_positions::positions::{FEW, positions};
 use population_rows::form::{Form, SlotForm};
 use population_rows::index::RowIndex;
-use schema_rules::inverses::InverseAttribute;
-use schema_sources::source::Source;
-use schema_sources::sources::{AttributeSources, attribute_source};
+use population_rows::positions::{FEW, positions};
+use schema_attribute_sources::source::Source;
+use schema_attribute_sources::sources::{AttributeSources, attribute_source};
+use schema_constraints::inverses::InverseAttribute;
 use schema_types::types::ResolvedTypes;
 use std::alloc::{AllocError, Global};
 use std::hash::RandomState;
 use step_literals::literal::Word;
 
-/// A form with more names and more types than so many for each of its instances has no row.
+/// A form has no row if it has more than this many names and more than this many types for each of
+/// its instances.
 const MANY: usize = 64;
 
 /// Where instances of a form have the value of an attribute.
 #[derive(Clone, Copy)]
 pub enum FormSource {
-    /// That of the explicit attribute of a place, at its position among their values.
+    /// The explicit attribute numbered `place`, at `position` among the values of an instance.
     Explicit { place: u32, position: usize },
     Other(Source),
 }
 
-/// Where instances of a form have the value of the attribute of a name.
+/// Where instances of a form have the value of the attribute called `name`.
 #[derive(Clone, Copy)]
 pub struct NamedSource<'s> {
     pub name: Word<'s>,
     pub source: FormSource,
 }
 
-/// By form, where its instances have the values of its explicit attributes, and of the derived and
-/// inverse ones that its types declare, in the order of their names; nothing where the names and the
-/// types are many and the instances few.
+/// Where instances of each form have the values of their attributes: the explicit attributes of the
+/// form, and the derived and inverse attributes that its types declare. Each row is sorted by
+/// attribute name. It is empty if the form has many names and many types, but few instances.
 #[derive(Drop)]
 pub struct FormSources<'s> {
     pub rows: Vec<Vec<NamedSource<'s>>>,
 }
 
-/// Where instances of a form have the value of a source, by where its explicit attributes stand.
+/// Returns where instances of a form have the value of `source`. `positions` finds the explicit
+/// attributes of the form.
 fn form_source(positions: &RowIndex, source: Source) -> FormSource
     ensures { (form : Form) → ArePositions form.slots.items positions.now
         → result ≡ form_source form.slots.items source }
@@ -74,7 +76,8 @@ fn form_source(positions: &RowIndex, source: Source) -> FormSource
     }
 }
 
-/// Where instances of a form have the value of the attribute of a name.
+/// Returns where instances of `form` have the value of their attribute called `name`, if they have
+/// one.
 fn named_source<'s>(
     schema: &ResolvedTypes<'s, '_>,
     sources: &AttributeSources,
@@ -83,7 +86,7 @@ fn named_source<'s>(
     positions: &RowIndex,
     name: Word<'s>,
 ) -> Option<NamedSource<'s>>
-    requires known { IsKnown schema.now sources.now inverses.now }
+    requires known { AreResolvedSources schema.now sources.now inverses.now }
     requires numbered { AreNumbered (the_schema schema.now.names) form.now }
     requires positions { ArePositions form.now.slots.items positions.now }
     ensures { IfSome result (IsNamedSource (the_schema schema.now.names)
@@ -98,7 +101,8 @@ fn named_source<'s>(
     }
 }
 
-/// Adds where instances of a form have the value of the attribute of a name.
+/// Adds where instances of `form` have the value of their attribute called `name`, if they have
+/// one.
 fn add_named<'s>(
     schema: &ResolvedTypes<'s, '_>,
     row: &mut Vec<NamedSource<'s>>,
@@ -108,7 +112,7 @@ fn add_named<'s>(
     positions: &RowIndex,
     name: Word<'s>,
 ) -> Result<(), AllocError>
-    requires known { IsKnown schema.now sources.now inverses.now }
+    requires known { AreResolvedSources schema.now sources.now inverses.now }
     requires numbered { AreNumbered (the_schema schema.now.names) form.now }
     requires positions { ArePositions form.now.slots.items positions.now }
     requires row { AreNamedSources (the_schema schema.now.names)
@@ -123,7 +127,7 @@ fn add_named<'s>(
     Ok(())
 }
 
-/// Adds the name of the explicit attribute of a number.
+/// Adds the name of the explicit attribute numbered `number`.
 fn add_place<'s>(
     schema: &ResolvedTypes<'s, '_>,
     names: &mut Vec<Word<'s>>,
@@ -135,7 +139,7 @@ fn add_place<'s>(
     Ok(())
 }
 
-/// Adds the names of explicit attributes.
+/// Adds the names of the explicit attributes `slots`.
 fn add_slots<'s>(
     schema: &ResolvedTypes<'s, '_>,
     names: &mut Vec<Word<'s>>,
@@ -147,7 +151,7 @@ fn add_slots<'s>(
     Ok(())
 }
 
-/// .. of these derived attributes.
+/// Adds the names of derived attributes.
 fn add_derived<'s>(
     names: &mut Vec<Word<'s>>,
     attributes: &[Derived<'s>],
@@ -158,7 +162,7 @@ fn add_derived<'s>(
     Ok(())
 }
 
-/// .. of these inverse attributes.
+/// Adds the names of inverse attributes.
 fn add_inverse<'s>(
     names: &mut Vec<Word<'s>>,
     attributes: &[Inverse<'s>],
@@ -169,7 +173,7 @@ fn add_inverse<'s>(
     Ok(())
 }
 
-/// .. of the derived and inverse attributes of a declaration, where it is an entity's.
+/// Adds the names of the derived and inverse attributes of `declaration`, if it is an entity.
 fn add_declared<'s>(
     names: &mut Vec<Word<'s>>,
     declaration: &Declaration<'s>,
@@ -181,7 +185,7 @@ fn add_declared<'s>(
     add_inverse(names, entity.inverse_attributes())
 }
 
-/// .. of those of the declaration of a number.
+/// Adds the names of the derived and inverse attributes of the declaration numbered `number`.
 fn add_type<'s>(
     schema: &ResolvedTypes<'s, '_>,
     names: &mut Vec<Word<'s>>,
@@ -193,7 +197,7 @@ fn add_type<'s>(
     }
 }
 
-/// .. of those of each of these types.
+/// Adds the names of the derived and inverse attributes of `types`.
 fn add_types<'s>(
     schema: &ResolvedTypes<'s, '_>,
     names: &mut Vec<Word<'s>>,
@@ -205,8 +209,8 @@ fn add_types<'s>(
     Ok(())
 }
 
-/// The names of the explicit attributes of a form, and of the derived and inverse ones that its
-/// types declare or redeclare, in order, each once.
+/// Returns the names of the explicit attributes of `form` and of the derived and inverse attributes
+/// that its types declare or redeclare, sorted and each once.
 fn attribute_names<'s>(
     alloc: Global,
     schema: &ResolvedTypes<'s, '_>,
@@ -220,7 +224,7 @@ fn attribute_names<'s>(
     Ok(names)
 }
 
-/// Where instances of a form have the values of the attributes of these names, in turn.
+/// Returns where instances of `form` have the values of the attributes called `names`, in order.
 fn named_sources<'s>(
     alloc: Global,
     schema: &ResolvedTypes<'s, '_>,
@@ -230,7 +234,7 @@ fn named_sources<'s>(
     positions: &RowIndex,
     names: &[Word<'s>],
 ) -> Result<Vec<NamedSource<'s>>, AllocError>
-    requires known { IsKnown schema.now sources.now inverses.now }
+    requires known { AreResolvedSources schema.now sources.now inverses.now }
     requires numbered { AreNumbered (the_schema schema.now.names) form.now }
     requires positions { ArePositions form.now.slots.items positions.now }
     ensures { IfOk result (λ t. AreNamedSources (the_schema schema.now.names)
@@ -243,14 +247,15 @@ fn named_sources<'s>(
     Ok(row)
 }
 
-/// Whether names and types of a form are many beside its instances. A row takes time for each of its
-/// names by the types, which is too much where both are many and hardly any name is asked for.
+/// Whether a form has many names and many types compared with its instances. The time for a row is
+/// the product of names and types, which is too much if both are many and hardly any name is looked
+/// up.
 fn are_many(names: usize, types: usize, instances: usize) -> bool {
     names / MANY > instances && types / MANY > instances
 }
 
-/// Where so many instances of a form have the values of their attributes, in the order of their
-/// names; nothing where the names and the types are many beside them.
+/// Returns where `count` instances of `form` have the values of their attributes, sorted by name;
+/// empty if the form has many names and many types compared with `count`.
 fn form_row<'s>(
     alloc: Global,
     keys: RandomState,
@@ -260,7 +265,7 @@ fn form_row<'s>(
     form: &Form,
     count: usize,
 ) -> Result<Vec<NamedSource<'s>>, AllocError>
-    requires known { IsKnown schema.now sources.now inverses.now }
+    requires known { AreResolvedSources schema.now sources.now inverses.now }
     requires numbered { AreNumbered (the_schema schema.now.names) form.now }
     ensures { IfOk result (λ t. AreNamedSources (the_schema schema.now.names)
         (inverses_seen (the_schema schema.now.names) inverses.now) form.now t.items) }
@@ -273,7 +278,7 @@ fn form_row<'s>(
     named_sources(alloc, schema, sources, inverses, form, &positions, &names)
 }
 
-/// Counts an instance of a form.
+/// Counts an instance of `form`.
 fn count_instance(counts: &mut [usize], form: Option<u32>) {
     let Some(form) = form else {
         return;
@@ -283,7 +288,8 @@ fn count_instance(counts: &mut [usize], form: Option<u32>) {
     }
 }
 
-/// How many instances each form has, where these are the forms of instances.
+/// Returns the number of instances of each of `forms` forms. `form_of` has the form of each
+/// instance.
 fn instance_counts(
     alloc: Global,
     forms: usize,
@@ -296,7 +302,7 @@ fn instance_counts(
     Ok(counts)
 }
 
-/// How many instances a form has.
+/// Returns the number of instances of `form`.
 fn count_of(counts: &[usize], form: usize) -> usize {
     match counts.get(form) {
         Some(count) => *count,
@@ -304,7 +310,7 @@ fn count_of(counts: &[usize], form: usize) -> usize {
     }
 }
 
-/// The source at a place of the row, where it has this name.
+/// Returns the element of `row` at index `at`, if it is called `name`.
 fn named_at<'n, 's>(
     row: &'n [NamedSource<'s>],
     at: usize,
@@ -312,7 +318,8 @@ fn named_at<'n, 's>(
 ) -> Option<&'n NamedSource<'s>>
     ensures { (s : Schema) (inverses : List InverseTree) (form : Form)
         → AreNamedSources s inverses form row.entry.now
-        → IfSome result (λ x. IsFormSource s inverses (Some form) (capitals name.entry) x.now.source) }
+        → IfSome result (λ x. IsFormSource s inverses (Some form)
+        (capitals name.entry) x.now.source) }
 {
     let Some(each) = row.get(at) else {
         return None;
@@ -320,17 +327,19 @@ fn named_at<'n, 's>(
     if each.name == name { Some(each) } else { None }
 }
 
-/// Where a search in a row in the order of names leads to.
+/// Returns the index of the first element of `row`, which is sorted, whose name isn't less than
+/// `name`.
 fn searched(row: &[NamedSource<'_>], name: Word<'_>) -> usize {
     row.partition_point(|each| each.name < name)
 }
 
-/// The first of these sources whose name is spelt so, in the case of each letter too. None says
-/// nothing.
+/// Returns the first element of `row` whose name is spelled like `name`, including the case of each
+/// letter. `None` doesn't mean that there is no such attribute.
 fn find_spelt<'n, 's>(row: &'n [NamedSource<'s>], name: Word<'_>) -> Option<&'n NamedSource<'s>>
     ensures { (s : Schema) (inverses : List InverseTree) (form : Form)
         → AreNamedSources s inverses form row.entry.now
-        → IfSome result (λ x. IsFormSource s inverses (Some form) (capitals name.entry) x.now.source) }
+        → IfSome result (λ x. IsFormSource s inverses (Some form)
+        (capitals name.entry) x.now.source) }
 {
     for each in row {
         if each.name.spelling() == name.spelling() {
@@ -340,11 +349,13 @@ fn find_spelt<'n, 's>(row: &'n [NamedSource<'s>], name: Word<'_>) -> Option<&'n 
     None
 }
 
-/// The first of these sources whose name is spelt so, where they are few. None says nothing.
+/// Returns the first element of `row` whose name is spelled like `name`, if the row is short.
+/// `None` doesn't mean that there is no such attribute.
 fn find_among_few<'n, 's>(row: &'n [NamedSource<'s>], name: Word<'_>) -> Option<&'n NamedSource<'s>>
     ensures { (s : Schema) (inverses : List InverseTree) (form : Form)
         → AreNamedSources s inverses form row.entry.now
-        → IfSome result (λ x. IsFormSource s inverses (Some form) (capitals name.entry) x.now.source) }
+        → IfSome result (λ x. IsFormSource s inverses (Some form)
+        (capitals name.entry) x.now.source) }
 {
     if row.len() > FEW {
         return None;
@@ -352,12 +363,14 @@ fn find_among_few<'n, 's>(row: &'n [NamedSource<'s>], name: Word<'_>) -> Option<
     find_spelt(row, name)
 }
 
-/// The source of a name in a row in the order of names: an expression mostly spells names as they
-/// are declared. None says nothing.
+/// Returns the element of `row`, which is sorted, called `name`. Tries the exact spelling first,
+/// because expressions mostly spell names as they are declared. `None` doesn't mean that there is
+/// no such attribute.
 fn find_in<'n, 's>(row: &'n [NamedSource<'s>], name: Word<'_>) -> Option<&'n NamedSource<'s>>
     ensures { (s : Schema) (inverses : List InverseTree) (form : Form)
         → AreNamedSources s inverses form row.entry.now
-        → IfSome result (λ x. IsFormSource s inverses (Some form) (capitals name.entry) x.now.source) }
+        → IfSome result (λ x. IsFormSource s inverses (Some form)
+        (capitals name.entry) x.now.source) }
 {
     match find_among_few(row, name) {
         Some(named) => Some(named),
@@ -366,10 +379,8 @@ fn find_in<'n, 's>(row: &'n [NamedSource<'s>], name: Word<'_>) -> Option<&'n Nam
 }
 
 impl<'s> FormSources<'s> {
-    /// That of these forms, which are of the types of a schema; `form_of` has the number of the form
-    /// of each instance. Places are hashed by these keys.
-    ///
-    /// An error says that memory ran out.
+    /// Builds the table of `forms`, whose types are those of `schema`. `form_of` has the number of
+    /// the form of each instance. Attributes are hashed by `keys`.
     pub fn of(
         alloc: Global,
         keys: RandomState,
@@ -379,7 +390,7 @@ impl<'s> FormSources<'s> {
         forms: &[Form],
         form_of: &[Option<u32>],
     ) -> Result<FormSources<'s>, AllocError>
-        requires known { IsKnown schema.now sources.now inverses.now }
+        requires known { AreResolvedSources schema.now sources.now inverses.now }
         requires numbered { Every (AreNumbered (the_schema schema.now.names)) forms.now }
         ensures { IfOk result (AreFormSources (the_schema schema.now.names)
             (inverses_seen (the_schema schema.now.names) inverses.now) forms.now) }
@@ -394,8 +405,9 @@ impl<'s> FormSources<'s> {
         Ok(FormSources { rows })
     }
 
-    /// Where instances of a form have the value of their attribute of this name. None says nothing.
-    /// It takes no memory.
+    /// Returns where instances of `form` have the value of their attribute called `name`. `None`
+    /// means that the table doesn't have it, not that there is no such attribute. Allocates no
+    /// memory.
     pub fn find(&self, form: Option<u32>, name: Word<'_>) -> Option<&NamedSource<'s>>
         ensures { (s : Schema) (inverses : List InverseTree) (forms : List Form)
             → AreFormSources s inverses forms self.now

@@ -3,25 +3,25 @@ use Rattle.std.proofs.Common.{◌≡◌, ◌<◌, ℕ, zero, suc, true, false, L
 use Rattle.std.specs.Prelude.{Some, None, slice_index}
 use Rattle.std.specs.Option.{option_map}
 use Rattle.std.proofs.lemmas.Bool.Decides.{nat_tests}
-use Rattle.step_values.specs.ComputedAgreement.{size}
-use Rattle.step_values.specs.Slots.{nth}
+use Rattle.step_values.specs.AgreementTests.{value_count}
+use Rattle.step_values.specs.steps.Slots.{nth}
 use Rattle.step_values.specs.Values as values
 use Rattle.step_values.specs.Values.{Value, Values}
-use Rattle.schema_bases.specs.declared.base.Base.{Base}
+use Rattle.schema_underlying_types.specs.declared.base.Base.{Base}
 use Rattle.express_logic.specs.Data.{indeterminate, instance, Data, none, more}
 use Rattle.express_logic.specs.Holdings.{size_of, element_at}
-use Rattle.conformance.specs.Meanings.{instances}
+use Rattle.conformance.specs.Meanings.{instance_data}
 use Rattle.conformance.specs.Operations.{only}
 use Rattle.rule_values.specs.declared.types.ValueTypes.{ValueTypes}
-use Rattle.rule_values.specs.Coded.{coded_datum, coded_each}
+use Rattle.rule_values.specs.TableValues.{coded_datum, coded_each}
 use Rattle.rule_values.specs.Parts.{or_indeterminate, picked}
 
 -- how many they are
-pub size-coded : (t : ValueTypes) (b : Base) (vs : Values) → size_of (coded_each t b vs) ≡ size vs
+pub size-coded : (t : ValueTypes) (b : Base) (vs : Values) → size_of (coded_each t b vs) ≡ value_count vs
 size-coded t b values.none = refl
 size-coded t b (values.more v vs) = ap suc (size-coded t b vs)
 
-pub size-instances : (ys : List ℕ) → size_of (instances ys) ≡ length ys
+pub size-instances : (ys : List ℕ) → size_of (instance_data ys) ≡ length ys
 size-instances [] = refl
 size-instances (y ∷ ys) = ap suc (size-instances ys)
 
@@ -37,12 +37,12 @@ nth-coded t b (values.more v vs) zero = refl
 nth-coded t b (values.more v vs) (suc i) = nth-coded t b vs i
 
 pub instance-found : (ys : List ℕ) (i y : ℕ) → i < length ys → y ≡ get_or ys i y
-    → element_at i (instances ys) ≡ Some (instance y)
+    → element_at i (instance_data ys) ≡ Some (instance y)
 instance-found [] i y l e = absurd (omega (arith, l))
 instance-found (z ∷ ys) zero y l e = ap (λ w. Some (instance w)) (sym e)
 instance-found (z ∷ ys) (suc i) y l e = instance-found ys i y (omega (arith, l)) e
 
-pub instance-missing : (ys : List ℕ) (i : ℕ) → (i < length ys → ⊥) → element_at i (instances ys) ≡ None
+pub instance-missing : (ys : List ℕ) (i : ℕ) → (i < length ys → ⊥) → element_at i (instance_data ys) ≡ None
 instance-missing [] i h = refl
 instance-missing (y ∷ ys) zero h = absurd (h (omega arith))
 instance-missing (y ∷ ys) (suc i) h = instance-missing ys i (λ l. h (omega (arith, l)))
@@ -82,7 +82,7 @@ element-over zero (more d ds) h = absurd (h (omega arith))
 element-over (suc i) (more d ds) h = element-over i ds (λ l. h (omega (arith, l)))
 
 -- none or several instances
-pub not-alone : (ys : List ℕ) → (length ys ≡ 1 → ⊥) → indeterminate ≡ only (instances ys)
+pub not-alone : (ys : List ℕ) → (length ys ≡ 1 → ⊥) → indeterminate ≡ only (instance_data ys)
 not-alone [] h = refl
 not-alone (y ∷ []) h = absurd (h refl)
 not-alone (y ∷ (z ∷ ys)) h = refl

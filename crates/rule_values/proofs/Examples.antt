@@ -5,12 +5,12 @@ use Rattle.step_values.specs.Leaves as leaves
 use Rattle.step_values.specs.Values as values
 use Rattle.step_values.specs.Values.{Value, leaf, reference}
 use Rattle.express_syntax.specs.declared.expression.Logical.TheVariants.{True}
-use Rattle.schema_bases.specs.declared.base.Base.{Base}
-use Rattle.schema_bases.specs.declared.base.Base.TheVariants as bases
-use Rattle.schema_bases.specs.declared.base.Collection.TheVariants as collections
+use Rattle.schema_underlying_types.specs.declared.base.Base.{Base}
+use Rattle.schema_underlying_types.specs.declared.base.Base.TheVariants as bases
+use Rattle.schema_underlying_types.specs.declared.base.Collection.TheVariants as collections
 use Rattle.express_logic.specs.Data.{indeterminate, element, logical, instance, aggregate, array, none, more}
 use Rattle.rule_values.specs.declared.types.ValueTypes.{ValueTypes}
-use Rattle.rule_values.specs.Coded.{coded_datum}
+use Rattle.rule_values.specs.TableValues.{coded_datum}
 use Rattle.rule_values.specs.Parts.{picked}
 
 -- an ARRAY [0:1] of what has number 7

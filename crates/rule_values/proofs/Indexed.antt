@@ -11,7 +11,7 @@ use Rattle.express_logic.specs.Holdings.{size_of, element_at}
 use Rattle.conformance.specs.Operations.{is_index, first_index, element_from, element_of, indexed}
 use Rattle.conformance.specs.Expressions.{or_this}
 use Rattle.conformance.proofs.Indices.{one_whole, passed, found_at}
-use Rattle.rule_values.specs.Indices.{has_indices, element_behind}
+use Rattle.rule_values.specs.steps.Indices.{has_indices, element_behind}
 use Rattle.rule_values.specs.Parts.{or_indeterminate}
 
 pub index-fits : (n : ℤ) → FitsSigned w64 n → is_index n ≡ true

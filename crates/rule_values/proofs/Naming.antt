@@ -10,7 +10,7 @@ use Rattle.express_syntax.specs.Schemas.{Declaration}
 use Rattle.schema_semantics.specs.Names.{Name, declared_name, is_named}
 use Rattle.schema_names.specs.Numbers.{number_from}
 use Rattle.schema_names.specs.Words.{same_word}
-use Rattle.rule_values.specs.Named.{names}
+use Rattle.rule_values.specs.NamedValues.{names}
 
 -- a test of names is the same from both sides
 pub turned-test : (m n : Name) → bytes_eq m n ≡ bytes_eq n m

@@ -7,7 +7,7 @@ use Rattle.conformance.specs.Expressions as expressions
 use Rattle.conformance.specs.Expressions.{variable}
 use Rattle.rule_values.specs.declared.variables.Variable.{Variable}
 use Rattle.rule_values.specs.Parts.{element_datum}
-use Rattle.rule_values.specs.Scopes.{variable_of, variables_from, variables_of}
+use Rattle.rule_values.specs.steps.Scopes.{variable_of, variables_from, variables_of}
 
 variables_last : (outer : List expressions.Variable) (vs : List Variable) (v : Variable)
     → variables_from outer (vs ++ v ∷ []) ≡ variable_of v ∷ variables_from outer vs

@@ -11,19 +11,19 @@ use Rattle.schema_semantics.specs.Faults.{IsResolved}
 use Rattle.schema_names.specs.Numbers.{HasNumber}
 use Rattle.conformance.specs.Bases as conformance
 use Rattle.conformance.specs.Bases.{Domain, IsDomain, base}
-use Rattle.conformance.specs.Fitting.{is_array, is_entity, inner, element}
+use Rattle.conformance.specs.ParameterFits.{is_array, is_entity, inner, element}
 use Rattle.conformance.specs.Fits.{Typing, Fits, FitEach}
-use Rattle.schema_bases.specs.declared.base.Aggregate.{Aggregate}
-use Rattle.schema_bases.specs.declared.base.Base.{Base}
-use Rattle.schema_bases.specs.declared.base.Base.TheVariants as bases
-use Rattle.schema_bases.specs.declared.base.Collection.{Collection}
-use Rattle.schema_bases.specs.declared.base.Collection.TheVariants as collections
-use Rattle.schema_bases.specs.Seen.{collection_seen, aggregate_seen, base_seen}
-use Rattle.schema_bases.specs.Tables.{IsNumbered}
+use Rattle.schema_underlying_types.specs.declared.base.Aggregate.{Aggregate}
+use Rattle.schema_underlying_types.specs.declared.base.Base.{Base}
+use Rattle.schema_underlying_types.specs.declared.base.Base.TheVariants as bases
+use Rattle.schema_underlying_types.specs.declared.base.Collection.{Collection}
+use Rattle.schema_underlying_types.specs.declared.base.Collection.TheVariants as collections
+use Rattle.schema_underlying_types.specs.BaseViews.{collection_seen, aggregate_seen, base_seen}
+use Rattle.schema_underlying_types.specs.Tables.{IsNumberedBase}
 use Rattle.express_logic.specs.Data.{list, array, typed, aggregate, bag, more}
 use Rattle.conformance.specs.Values.{leaf_datum, shape_of, datum, each_datum}
 use Rattle.rule_values.specs.declared.types.ValueTypes.{ValueTypes}
-use Rattle.rule_values.specs.Coded.{named_base, element_base, coded_leaf, collected, coded_shape, coded_datum, coded_each}
+use Rattle.rule_values.specs.TableValues.{named_base, element_base, coded_leaf, collected, coded_shape, coded_datum, coded_each}
 use Rattle.rule_values.specs.Tables.{AreValueTypes}
 use Rattle.rule_values.specs.Laws.{FittingValuesAreWorthTheSame}
 use Rattle.rule_values.proofs.Items.{item-declared}
@@ -83,14 +83,14 @@ item-there s d r is b n c e = absurd (cc)
 
 module _ (s : Schema) (d : Domain) (r : IsResolved s) (is : IsDomain s d) (t : ValueTypes) (are : AreValueTypes s t)
     (typing : Typing) where
-  element-as : (b : Base) → IsNumbered s b → (a : conformance.Aggregate) → base_seen s b ≡ conformance.aggregate a
+  element-as : (b : Base) → IsNumberedBase s b → (a : conformance.Aggregate) → base_seen s b ≡ conformance.aggregate a
       → base_seen s (element_base t b) ≡ base d a.element
   element-as (bases.Aggregate a) known c e =
       let same : aggregate_seen s a ≡ c = cc in
       are.by_number d is a.element known ∙ ap (λ (x : conformance.Aggregate). base d x.element) same
   element-as b known c e = absurd (cc)
 
-  element-numbered : (b : Base) → IsNumbered s b → IsNumbered s (element_base t b)
+  element-numbered : (b : Base) → IsNumberedBase s b → IsNumberedBase s (element_base t b)
   element-numbered (bases.Aggregate a) known = are.numbered a.element
   element-numbered b known = known
 
@@ -102,7 +102,7 @@ module _ (s : Schema) (d : Domain) (r : IsResolved s) (is : IsDomain s d) (t : V
   left-out-worth b v e = ap (coded_datum t b) e ∙ ap (datum s d (base_seen s b)) (sym e)
 
   mutual
-    pub worth : (b : Base) → IsNumbered s b → (v : Value) → Fits s d typing (base_seen s b) v
+    pub worth : (b : Base) → IsNumberedBase s b → (v : Value) → Fits s d typing (base_seen s b) v
         → coded_datum t b v ≡ datum s d (base_seen s b) v
     worth b known (leaf a) fits = leaf-worth s b a
     worth b known (reference y) fits = refl
@@ -126,7 +126,7 @@ module _ (s : Schema) (d : Domain) (r : IsResolved s) (is : IsDomain s d) (t : V
         (subst (λ x. FitEach s d typing g.of.optional x vs) (sym here) g.each)
         ∙ ap (λ x. each_datum s d x vs) (here ∙ sym (element-of-seen (base_seen s b) g.of g.is_of)))
 
-    each-worth : (b : Base) → IsNumbered s b → (optional : Bool) (vs : Values)
+    each-worth : (b : Base) → IsNumberedBase s b → (optional : Bool) (vs : Values)
         → FitEach s d typing optional (base_seen s b) vs → coded_each t b vs ≡ each_datum s d (base_seen s b) vs
     each-worth b known optional values.none fits = refl
     each-worth b known optional (values.more v vs) (inl left, fits) =
@@ -134,7 +134,7 @@ module _ (s : Schema) (d : Domain) (r : IsResolved s) (is : IsDomain s d) (t : V
     each-worth b known optional (values.more v vs) (inr fit, fits) =
         (λ i. more (worth b known v fit i) (each-worth b known optional vs fits i))
 
-  pub all-worth : (b : Base) → IsNumbered s b → (v : Value)
+  pub all-worth : (b : Base) → IsNumberedBase s b → (v : Value)
       → ((v ≡ leaf unset) ⊎ (v ≡ leaf derived)) ⊎ Fits s d typing (base_seen s b) v
       → coded_datum t b v ≡ datum s d (base_seen s b) v
   all-worth b known v (inl (inl e)) = ap (coded_datum t b) e ∙ ap (datum s d (base_seen s b)) (sym e)

@@ -1,8 +1,6 @@
-pub mod Named
-pub mod Coded
+pub mod NamedValues
+pub mod TableValues
 pub mod Parts
 pub mod Tables
-pub mod Indices
 pub mod Laws
-pub mod Scopes
-pub mod Forms
+pub mod steps

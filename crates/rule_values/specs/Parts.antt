@@ -6,7 +6,7 @@ use Rattle.schema_semantics.specs.Names.{Name}
 use Rattle.express_logic.specs.Data as data_of
 use Rattle.express_logic.specs.Data.{Shape, list, bag, Datum, indeterminate, Data, none, more}
 use Rattle.express_logic.specs.Holdings.{Holding, element_at}
-use Rattle.conformance.specs.Meanings.{instances}
+use Rattle.conformance.specs.Meanings.{instance_data}
 use Rattle.conformance.specs.Operations.{kept_shape}
 use Rattle.rule_values.specs.declared.element.Element.{Element}
 use Rattle.rule_values.specs.declared.element.Element.TheVariants as elements
@@ -16,8 +16,8 @@ use Rattle.rule_values.specs.declared.part.Extent.{Extent}
 use Rattle.rule_values.specs.declared.part.Extent.TheVariants as extents
 use Rattle.rule_values.specs.declared.part.Kept.{Kept}
 use Rattle.rule_values.specs.declared.part.Part.{Part}
-use Rattle.schema_bases.specs.declared.base.Base.{Base}
-use Rattle.rule_values.specs.Coded.{named_base, element_base, coded_shape, coded_datum, coded_each}
+use Rattle.schema_underlying_types.specs.declared.base.Base.{Base}
+use Rattle.rule_values.specs.TableValues.{named_base, element_base, coded_shape, coded_datum, coded_each}
 
 abbrev pub or_indeterminate : Option Datum → Datum
 or_indeterminate None = indeterminate
@@ -28,7 +28,7 @@ abbrev pub picked : List ℕ → Data → Data
 picked [] ds = none
 picked (i ∷ is) ds = more (or_indeterminate (element_at i ds)) (picked is ds)
 
--- what an element of an aggregate is worth
+-- the datum of an element of an aggregate
 unfoldable pub element_datum : Element → Datum
 element_datum elements.Nothing = indeterminate
 element_datum (elements.Instance y) = data_of.instance y
@@ -45,9 +45,9 @@ content_inner c = indeterminate
 abbrev pub content_elements : Content → Data
 content_elements (contents.Typed t w v) = none
 content_elements (contents.Values p t b vs) = coded_each t.now (element_base t.now b.now) vs
-content_elements (contents.Instances ys) = instances ys.now
+content_elements (contents.Instances ys) = instance_data ys.now
 
--- the shape of the values of an aggregate of this data type, in order or in none
+-- the shape of the values of an aggregate of this type, whose order matters if p
 abbrev pub values_shape : Bool → Base → Shape
 values_shape p b = cond p (coded_shape b) bag
 
@@ -59,7 +59,7 @@ content_shape (contents.Instances ys) = bag
 abbrev pub kept_elements : Kept → Data
 kept_elements k = picked k.indices.value.items (content_elements k.content)
 
--- all of a value
+-- the whole value
 abbrev pub content_in : Extent → Content
 content_in (extents.Whole c) = c
 content_in (extents.Kept k) = k.value.content
@@ -72,7 +72,7 @@ abbrev pub shape_in : Extent → Shape
 shape_in (extents.Whole c) = content_shape c
 shape_in (extents.Kept k) = kept_shape (content_shape k.value.content)
 
--- all elements, of which there may be some that a QUERY didn't keep
+-- all elements, including those that a QUERY didn't keep
 unfoldable pub whole_elements : Part → Data
 whole_elements p = content_elements (content_in p.extent)
 
@@ -84,7 +84,7 @@ holding p = record {
   elements = elements_in p.extent;
 }
 
--- the name that a word spells, where there is one
+-- the name that a word spells; empty if there is no word
 abbrev pub capitals_of : Option Word → Name
 capitals_of None = []
 capitals_of (Some w) = word_of w

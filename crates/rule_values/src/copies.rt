@@ -1,4 +1,4 @@
-//! Values that are read more than once.
+//! Copies of values that are read more than once.
 
 ghost use Rattle.std.specs.Prelude.{◌≡◌, IfOk};
 ghost use Rattle.express_logic.specs.Views.{datum_of};
@@ -8,9 +8,7 @@ use crate::part::Part;
 use express_logic::datum::Datum;
 use std::alloc::{AllocError, Global};
 
-/// A value once more.
-///
-/// An error says that memory ran out.
+/// Returns a copy of `value`.
 pub fn copied<'p, 'r>(
     alloc: Global,
     value: &Datum<'r, Part<'p, 'r>>,

@@ -9,17 +9,17 @@ use crate::part::Part;
 use crate::types::ValueTypes;
 use crate::values::value_datum;
 use express_logic::datum::Datum;
-use schema_bases::base::Base;
+use schema_underlying_types::base::Base;
 use step_values::slot::Slot;
 
-/// An element of an aggregate. It owns nothing, so that it can stand in a list of variables.
+/// An element of an aggregate. It owns nothing, so it can be in a list of variables.
 #[derive(Drop)]
 pub enum Element<'p, 'r> {
     /// No value.
     Nothing,
     /// An instance, by its name.
     Instance(u64),
-    /// A value of this data type.
+    /// A value whose data type has the underlying type `base`.
     Value {
         types: &'p ValueTypes<'r>,
         base: &'p Base,
@@ -28,7 +28,7 @@ pub enum Element<'p, 'r> {
 }
 
 impl<'p, 'r> Element<'p, 'r> {
-    /// What it is worth.
+    /// Returns the datum of the element.
     pub fn datum(&self) -> Datum<'r, Part<'p, 'r>>
         ensures { datum_of holding result ≡ element_datum self.now }
     {

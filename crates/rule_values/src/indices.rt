@@ -5,15 +5,15 @@ ghost use Rattle.express_logic.specs.Data.{aggregate};
 ghost use Rattle.express_logic.specs.Literals.{whole_units};
 ghost use Rattle.express_logic.specs.Views.{datum_of};
 ghost use Rattle.conformance.specs.Operations.{element_from, indexed};
-ghost use Rattle.rule_values.specs.Coded.{shape_seen};
-ghost use Rattle.rule_values.specs.Indices.{IsWholeNumber, has_indices};
+ghost use Rattle.rule_values.specs.TableValues.{shape_seen};
+ghost use Rattle.rule_values.specs.steps.Indices.{IsWholeNumber, has_indices};
 ghost use Rattle.rule_values.specs.Parts.{holding};
 
 use crate::part::Part;
 use crate::shape::Shape;
 use express_logic::datum::{Datum, Held};
 
-/// The whole number of 64 bits that a value is worth.
+/// Returns the whole number that `datum` is, if it is one of 64 bits.
 fn whole_number<'p, 'r>(datum: &Datum<'r, Part<'p, 'r>>) -> Option<i64>
     ensures { IsWholeNumber (datum_of holding datum.now) result }
 {
@@ -25,8 +25,8 @@ fn whole_number<'p, 'r>(datum: &Datum<'r, Part<'p, 'r>>) -> Option<i64>
     }
 }
 
-/// Whether so many elements have indices: those of a SET or BAG have no order, so there it is one
-/// alone that has.
+/// Whether `len` elements have indices. The elements of a SET or BAG have no order, so only a
+/// single element has one.
 fn has_indices(shape: Shape<'_>, len: usize) -> bool
     ensures { result ≡ has_indices (shape_seen shape.entry) len }
 {
@@ -37,7 +37,8 @@ fn has_indices(shape: Shape<'_>, len: usize) -> bool
     }
 }
 
-/// The element of an index, where the first one has this index.
+/// Returns the element at `index`, if the index of the first element is `first`; indeterminate if
+/// there is no such element.
 fn element_from<'p, 'r>(part: &Part<'p, 'r>, first: i64, index: i64) -> Datum<'r, Part<'p, 'r>>
     ensures { datum_of holding result
         ≡ element_from first (whole_units index) (holding part.now).elements }
@@ -48,8 +49,8 @@ fn element_from<'p, 'r>(part: &Part<'p, 'r>, first: i64, index: i64) -> Datum<'r
     part.element_value(index.abs_diff(first) as usize).datum()
 }
 
-/// The element of an index that a value is worth; indeterminate where that is no whole number of 64
-/// bits, and where no element has it.
+/// Returns the element at `index`; indeterminate if `index` isn't a whole number of 64 bits, or if
+/// no element has that index.
 fn element_of<'p, 'r>(
     part: &Part<'p, 'r>,
     index: &Datum<'r, Part<'p, 'r>>,
@@ -71,8 +72,9 @@ fn element_of<'p, 'r>(
     }
 }
 
-/// `a[i]` (ISO 10303-11, 12.6.1): the element whose index is what the second value is worth. Those of
-/// a SET or BAG have no order, so there is one only where it is alone, by the index 1.
+/// Returns `datum[index]`, an element of an aggregate (ISO 10303-11, 12.6.1). The elements of a SET
+/// or BAG have no order, so only a single element has an index, which is 1. Returns indeterminate
+/// if there is no such element.
 pub fn indexed<'p, 'r>(
     datum: &Datum<'r, Part<'p, 'r>>,
     index: &Datum<'r, Part<'p, 'r>>,

@@ -13,9 +13,10 @@ use express_logic::strings::AnyString;
 use express_syntax::expression::{Expr, Literal, Number, Sign};
 use step_literals::literal::Decimal;
 
-/// The decimal that a number is.
+/// Returns the decimal that `number` is written as.
 fn decimal<'a>(number: Number<'a>) -> Decimal<'a>
-    ensures { result.text.now ≡ Rattle.conformance.specs.Expressions.spelling (number_of number.entry) }
+    ensures { result.text.now ≡ Rattle.conformance.specs.Expressions.spelling
+        (number_of number.entry) }
 {
     match number {
         Number::Integer(decimal) => decimal,
@@ -23,7 +24,7 @@ fn decimal<'a>(number: Number<'a>) -> Decimal<'a>
     }
 }
 
-/// What a literal is worth.
+/// Returns the datum of `literal`.
 pub fn literal_datum<'p, 'r>(literal: Literal<'r>) -> Datum<'r, Part<'p, 'r>>
     ensures { datum_of holding result ≡ of_literal (literal_of literal.entry) }
 {
@@ -37,7 +38,7 @@ pub fn literal_datum<'p, 'r>(literal: Literal<'r>) -> Datum<'r, Part<'p, 'r>>
     }
 }
 
-/// What a number behind a sign is worth.
+/// Returns the datum of `number` after `sign`.
 pub fn signed_datum<'p, 'r>(sign: Sign, number: Number<'r>) -> Datum<'r, Part<'p, 'r>>
     ensures { datum_of holding result ≡ of_signed sign (number_of number.entry) }
 {
@@ -47,7 +48,7 @@ pub fn signed_datum<'p, 'r>(sign: Sign, number: Number<'r>) -> Datum<'r, Part<'p
     }
 }
 
-/// The string that an expression is, in parentheses or not.
+/// Returns the string if `expression` is a string literal, in parentheses or not.
 pub fn string_of<'r>(expression: &Expr<'r>) -> Option<AnyString<'r>>
     ensures { option_map text_of result ≡ string_of (tree_of expression.now) }
 {

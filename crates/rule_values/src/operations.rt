@@ -1,23 +1,23 @@
-//! What is made of values (ISO 10303-11, 12 and 15).
+//! Operations on data (ISO 10303-11, 12 and 15).
 
 ghost use Rattle.std.specs.Prelude.{◌≡◌, false, OnOk};
 ghost use Rattle.express_syntax.specs.ExpressionViews.{tree_of};
 ghost use Rattle.express_logic.specs.Views.{datum_of};
 ghost use Rattle.conformance.specs.Expressions.{of_call, of_junction};
 ghost use Rattle.conformance.specs.Operations.{bare, says, size, high_index, low_index, compared, limited, is_true};
-ghost use Rattle.rule_values.specs.Forms.{is_condition, is_in, is_sizeof, is_typeof};
+ghost use Rattle.rule_values.specs.steps.Forms.{is_condition, is_in, is_sizeof, is_typeof};
 ghost use Rattle.rule_values.specs.Parts.{holding};
 
-use crate::inside::{bare, high_index, is_known, low_index, size};
+use crate::contents::{bare, high_index, is_known, low_index, size};
 use crate::part::Part;
-use express_logic::compare::{equal, less, member};
+use express_logic::comparison::{equal, less, member};
 use express_logic::datum::Datum;
 use express_logic::logical::{Logical, known, not, or, xor};
 use express_syntax::expression::{Expr, Function, Junction, Limit, Relation};
 use std::alloc::AllocError;
 use std::mem;
 
-/// Whether a value has the name of its type. One that hasn't is bare, and needn't be copied.
+/// Whether `value` is a typed value. Any other value is its own content, and needn't be copied.
 pub fn is_typed(value: &Datum<'_, Part<'_, '_>>) -> bool
     ensures { result ≡ false → bare (datum_of holding value.now) ≡ datum_of holding value.now }
 {
@@ -27,7 +27,7 @@ pub fn is_typed(value: &Datum<'_, Part<'_, '_>>) -> bool
     }
 }
 
-/// Replaces a typed value by what is inside it.
+/// Replaces a typed value by its content, at any depth.
 pub fn strip_type<'p, 'r>(value: &mut Datum<'r, Part<'p, 'r>>)
     ensures { datum_of holding value.new ≡ bare (datum_of holding value.old) }
 {
@@ -37,8 +37,8 @@ pub fn strip_type<'p, 'r>(value: &mut Datum<'r, Part<'p, 'r>>)
     }
 }
 
-/// What a value says as an operand of a logical operator. A typed value is replaced by what is inside
-/// it.
+/// Returns the truth of `value` as an operand of a logical operator. A typed value is replaced by
+/// its content.
 pub fn truth<'p, 'r>(value: &mut Datum<'r, Part<'p, 'r>>) -> Logical
     ensures { result ≡ says (datum_of holding value.old) }
 {
@@ -46,14 +46,14 @@ pub fn truth<'p, 'r>(value: &mut Datum<'r, Part<'p, 'r>>) -> Logical
     value.truth()
 }
 
-/// Whether a condition is TRUE.
+/// Whether a condition with this value is TRUE.
 pub fn is_true(value: Logical) -> bool
     ensures { result ≡ is_true value }
 {
     matches!(value, Logical::True)
 }
 
-/// What a relation says of two values.
+/// Returns the result of comparing `left` and `right` by `relation`.
 pub fn compared<'p, 'r>(
     relation: Relation,
     left: &Datum<'r, Part<'p, 'r>>,
@@ -73,8 +73,8 @@ pub fn compared<'p, 'r>(
     }
 }
 
-/// Whether an expression is a condition by its form, in parentheses or not: a comparison, or what a
-/// logical operator makes of others.
+/// Whether `expression` is a condition by its form, in parentheses or not: a comparison, an
+/// interval, or a logical operator with its operands.
 pub fn is_condition(expression: &Expr<'_>) -> bool
     ensures { result ≡ is_condition (tree_of expression.now) }
 {
@@ -89,28 +89,28 @@ pub fn is_condition(expression: &Expr<'_>) -> bool
     }
 }
 
-/// Whether a relation is IN.
+/// Whether `relation` is IN.
 pub fn is_in(relation: Relation) -> bool
     ensures { result ≡ is_in relation }
 {
     matches!(relation, Relation::In)
 }
 
-/// Whether a function is TYPEOF.
+/// Whether `function` is TYPEOF.
 pub fn is_typeof(function: Function) -> bool
     ensures { result ≡ is_typeof function }
 {
     matches!(function, Function::Typeof)
 }
 
-/// Whether a function is SIZEOF.
+/// Whether `function` is SIZEOF.
 pub fn is_sizeof(function: Function) -> bool
     ensures { result ≡ is_sizeof function }
 {
     matches!(function, Function::Sizeof)
 }
 
-/// What a limit of an interval says of two values.
+/// Returns the result of comparing `left` and `right` by a limit of an interval.
 pub fn limited<'p, 'r>(
     limit: Limit,
     left: &Datum<'r, Part<'p, 'r>>,
@@ -124,7 +124,7 @@ pub fn limited<'p, 'r>(
     }
 }
 
-/// OR or XOR.
+/// Returns the OR or the XOR of `p` and `q`.
 pub fn joined(junction: Junction, p: Logical, q: Logical) -> Logical
     ensures { result ≡ of_junction junction p q }
 {
@@ -134,9 +134,8 @@ pub fn joined(junction: Junction, p: Logical, q: Logical) -> Logical
     }
 }
 
-/// Replaces a value by how many elements it has, in a typed value too: SIZEOF.
-///
-/// Where there are 2^63 or more there is no memory for it.
+/// Replaces an aggregate by the number of its elements, also inside a typed value: SIZEOF. Fails if
+/// there are 2^63 elements or more.
 pub fn replace_by_size<'p, 'r>(value: &mut Datum<'r, Part<'p, 'r>>) -> Result<(), AllocError>
     ensures { OnOk result (datum_of holding value.new ≡ size (bare (datum_of holding value.old))) }
 {
@@ -145,9 +144,8 @@ pub fn replace_by_size<'p, 'r>(value: &mut Datum<'r, Part<'p, 'r>>) -> Result<()
     Ok(())
 }
 
-/// .. by its last index: HIINDEX.
-///
-/// Where there are 2^63 elements or more there is no memory for it.
+/// Replaces an aggregate by its last index, also inside a typed value: HIINDEX. Fails if 2^63
+/// elements or more have to be counted.
 fn replace_by_high_index<'p, 'r>(value: &mut Datum<'r, Part<'p, 'r>>) -> Result<(), AllocError>
     ensures { OnOk result (datum_of holding value.new
         ≡ high_index (bare (datum_of holding value.old))) }
@@ -157,7 +155,7 @@ fn replace_by_high_index<'p, 'r>(value: &mut Datum<'r, Part<'p, 'r>>) -> Result<
     Ok(())
 }
 
-/// .. by its first index: LOINDEX.
+/// Replaces an aggregate by its first index, also inside a typed value: LOINDEX.
 fn replace_by_low_index<'p, 'r>(value: &mut Datum<'r, Part<'p, 'r>>)
     ensures { datum_of holding value.new ≡ low_index (bare (datum_of holding value.old)) }
 {
@@ -165,10 +163,9 @@ fn replace_by_low_index<'p, 'r>(value: &mut Datum<'r, Part<'p, 'r>>)
     *value = low_index(value);
 }
 
-/// Replaces a value by that of a function of the language; that of TYPEOF is none but on the right
-/// of IN.
-///
-/// Where there are 2^63 elements or more there is no memory for their number.
+/// Replaces `value` by the result of applying `function` to it. The result of TYPEOF is
+/// indeterminate, because TYPEOF has a value only as the right operand of IN. Fails if 2^63
+/// elements or more have to be counted.
 #[inline(never)]
 pub fn apply<'p, 'r>(
     function: Function,

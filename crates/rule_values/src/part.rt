@@ -1,4 +1,4 @@
-//! Typed values and aggregates of a population, whole or as far as a QUERY keeps their elements.
+//! Typed values and aggregates of a population, whole or with the elements that a QUERY keeps.
 #![tactic(auto, unfolding(crate::specs::Parts::element_datum, crate::specs::Parts::holding, crate::specs::Parts::whole_elements))]
 
 ghost use Rattle.std.specs.Prelude.{◌≡◌, ◌<◌, [], length, slice_index, IfOk};
@@ -6,12 +6,12 @@ ghost use Rattle.std.specs.Option.{option_map};
 ghost use Rattle.step_values.specs.Values.{typed, sequence, bag};
 ghost use Rattle.step_values.specs.Views.{word_of};
 ghost use Rattle.express_logic.specs.Data;
-ghost use Rattle.express_logic.specs.Comparing.{scalar};
+ghost use Rattle.express_logic.specs.Comparison.{scalar};
 ghost use Rattle.express_logic.specs.Holdings.{Holding, element_at, size_of};
 ghost use Rattle.express_logic.specs.Views.{datum_of, scalar_of};
-ghost use Rattle.conformance.specs.Meanings.{instances};
+ghost use Rattle.conformance.specs.Meanings.{instance_data};
 ghost use Rattle.conformance.specs.Operations.{bare};
-ghost use Rattle.rule_values.specs.Coded.{coded_datum, coded_each, shape_seen};
+ghost use Rattle.rule_values.specs.TableValues.{coded_datum, coded_each, shape_seen};
 ghost use Rattle.rule_values.specs.Parts.{
   holding,
   picked,
@@ -35,13 +35,13 @@ use crate::types::ValueTypes;
 use crate::values::bare_value;
 use express_logic::datum::{Datum, Held};
 use express_logic::scalar::Scalar;
-use schema_bases::base::Base;
+use schema_underlying_types::base::Base;
 use std::alloc::{AllocError, Global};
 use std::rc::Rc;
 use step_literals::literal::Word;
 use step_values::slot::{Slot, Slots};
 
-/// What stands where the population keeps it.
+/// A value that is stored in the population.
 #[derive(Drop)]
 enum Content<'p, 'r> {
     /// A value with the name of its type.
@@ -50,7 +50,7 @@ enum Content<'p, 'r> {
         word: Word<'r>,
         inner: Slot<'p, 'r>,
     },
-    /// The values of an aggregate of this data type, in order or in none.
+    /// The values of an aggregate of the type `base`.
     Values {
         is_ordered: bool,
         types: &'p ValueTypes<'r>,
@@ -61,16 +61,17 @@ enum Content<'p, 'r> {
     Instances(&'p [u64]),
 }
 
-/// Those elements of an aggregate that a QUERY keeps.
+/// The elements of an aggregate that a QUERY keeps.
 #[derive(Drop)]
 struct Kept<'p, 'r> {
-    /// All of it.
+    /// The whole aggregate.
     content: Content<'p, 'r>,
-    /// The indices of the elements. Copies share them.
+    /// The indices of the kept elements in `content`. Copies share them.
     indices: Rc<Vec<usize>>,
 }
 
-/// All of a value, or some elements: these are boxed, since they are rare, and values are moved.
+/// A whole value, or some of its elements. The latter are boxed because they are rare and values
+/// are moved.
 #[derive(Drop)]
 enum Extent<'p, 'r> {
     Whole(Content<'p, 'r>),
@@ -83,7 +84,7 @@ pub struct Part<'p, 'r> {
     extent: Extent<'p, 'r>,
 }
 
-/// The value of this index, as an element.
+/// Returns the value at `index` as an element, if there is one.
 fn value_at<'p, 'r>(
     types: &'p ValueTypes<'r>,
     base: &'p Base,
@@ -99,7 +100,7 @@ fn value_at<'p, 'r>(
     }
 }
 
-/// The shape of the values of an aggregate of this data type.
+/// Returns the shape of an aggregate of the type `base`.
 fn values_shape(is_ordered: bool, base: &Base) -> Shape<'_>
     ensures { shape_seen result ≡ values_shape is_ordered base.now }
 {
@@ -110,16 +111,16 @@ fn values_shape(is_ordered: bool, base: &Base) -> Shape<'_>
     }
 }
 
-/// How many instances there are.
+/// Returns the number of instances.
 fn count_of(names: &[u64]) -> usize
-    ensures { result ≡ size_of (instances names.now) }
+    ensures { result ≡ size_of (instance_data names.now) }
 {
     names.len()
 }
 
-/// The name of this index, if there are so many.
+/// Returns the name at `index`, if any.
 fn name_at(names: &[u64], index: usize) -> Option<u64>
-    ensures { option_map Data.instance result ≡ element_at index (instances names.now) }
+    ensures { option_map Data.instance result ≡ element_at index (instance_data names.now) }
 {
     match names.get(index) {
         Some(name) => Some(*name),
@@ -128,7 +129,7 @@ fn name_at(names: &[u64], index: usize) -> Option<u64>
 }
 
 impl<'p, 'r> Content<'p, 'r> {
-    /// The same once more.
+    /// Returns a copy.
     fn again(&self) -> Content<'p, 'r>
         ensures { result ≡ self.now }
     {
@@ -153,7 +154,7 @@ impl<'p, 'r> Content<'p, 'r> {
         }
     }
 
-    /// How many elements there are.
+    /// Returns the number of elements.
     fn len(&self) -> usize
         ensures { result ≡ size_of (content_elements self.now) }
     {
@@ -164,7 +165,7 @@ impl<'p, 'r> Content<'p, 'r> {
         }
     }
 
-    /// The element of this index; nothing where there are fewer.
+    /// Returns the element at `index`; `Nothing` if there is no such element.
     fn element(&self, index: usize) -> Element<'p, 'r>
         ensures { element_datum result
             ≡ or_indeterminate (element_at index (content_elements self.now)) }
@@ -184,7 +185,7 @@ impl<'p, 'r> Content<'p, 'r> {
         }
     }
 
-    /// Its shape, where it is an aggregate.
+    /// Returns the shape of an aggregate; that of a LIST for a typed value.
     fn shape(&self) -> Shape<'p>
         ensures { shape_seen result ≡ content_shape self.now }
     {
@@ -199,7 +200,7 @@ impl<'p, 'r> Content<'p, 'r> {
         }
     }
 
-    /// What it is compared by, where it is a typed value.
+    /// Returns what a typed value is compared by; `Nothing` for an aggregate.
     fn bare(&self) -> Scalar<'r>
         ensures { scalar_of result ≡ scalar (content_inner self.now) }
     {
@@ -212,7 +213,7 @@ impl<'p, 'r> Content<'p, 'r> {
         }
     }
 
-    /// What is inside it at any depth, where it is a typed value.
+    /// Returns the content of a typed value, at any depth; indeterminate for an aggregate.
     fn inside(&self) -> Datum<'r, Part<'p, 'r>>
         ensures { datum_of holding result ≡ bare (content_inner self.now) }
     {
@@ -227,9 +228,7 @@ impl<'p, 'r> Content<'p, 'r> {
 }
 
 impl<'p, 'r> Kept<'p, 'r> {
-    /// The same elements once more.
-    ///
-    /// An error says that memory ran out.
+    /// Returns a copy that shares the indices.
     fn again(&self) -> Result<Kept<'p, 'r>, AllocError>
         ensures { IfOk result (λ k. (k.content ≡ self.now.content)
             × (k.indices.value ≡ self.now.indices.value)) }
@@ -241,7 +240,7 @@ impl<'p, 'r> Kept<'p, 'r> {
         })
     }
 
-    /// The element of this index; nothing where there are fewer.
+    /// Returns the kept element at `index`; `Nothing` if there is no such element.
     fn element(&self, index: usize) -> Element<'p, 'r>
         ensures { element_datum result
             ≡ or_indeterminate (element_at index (kept_elements self.now)) }
@@ -276,7 +275,7 @@ impl<'r, 'p> Held<'r> for Part<'p, 'r> {
     }
 }
 
-/// The index that stands at this one.
+/// Returns the element of `kept` at `index`.
 fn place_at(kept: &[usize], index: usize) -> usize
     requires { index < length kept.now }
     ensures { result ≡ slice_index kept.now index }
@@ -285,7 +284,7 @@ fn place_at(kept: &[usize], index: usize) -> usize
 }
 
 impl<'p, 'r> Part<'p, 'r> {
-    /// A value with the name of its type.
+    /// Returns a value with the name of its type.
     pub(crate) fn typed(
         types: &'p ValueTypes<'r>,
         word: Word<'r>,
@@ -299,7 +298,7 @@ impl<'p, 'r> Part<'p, 'r> {
         }
     }
 
-    /// The values of an aggregate in order.
+    /// Returns an aggregate whose values have an order.
     pub(crate) fn in_order(
         types: &'p ValueTypes<'r>,
         base: &'p Base,
@@ -318,7 +317,7 @@ impl<'p, 'r> Part<'p, 'r> {
         }
     }
 
-    /// The values of a SET or a BAG.
+    /// Returns an aggregate whose values have no order: a SET or a BAG.
     pub(crate) fn in_no_order(
         types: &'p ValueTypes<'r>,
         base: &'p Base,
@@ -337,17 +336,17 @@ impl<'p, 'r> Part<'p, 'r> {
         }
     }
 
-    /// Instances in no order, as those of an inverse attribute.
+    /// Returns an aggregate of instances without an order, such as those of an inverse attribute.
     pub fn instances(names: &'p [u64]) -> Part<'p, 'r>
         ensures shape { (holding result).shape ≡ Data.bag }
-        ensures elements { (holding result).elements ≡ instances names.entry.now }
+        ensures elements { (holding result).elements ≡ instance_data names.entry.now }
     {
         Part {
             extent: Extent::Whole(Content::Instances(names)),
         }
     }
 
-    /// All of it.
+    /// Returns the whole value.
     fn content(&self) -> &Content<'p, 'r>
         ensures { result.now ≡ content_in self.now.extent }
     {
@@ -357,7 +356,7 @@ impl<'p, 'r> Part<'p, 'r> {
         }
     }
 
-    /// .. without the indices of elements.
+    /// Returns the whole value, and drops the indices of kept elements.
     fn into_content(self) -> Content<'p, 'r>
         ensures { result ≡ content_in self.entry.extent }
     {
@@ -371,7 +370,7 @@ impl<'p, 'r> Part<'p, 'r> {
         }
     }
 
-    /// The name of its type, where it is a typed value.
+    /// Returns the name of the type of a typed value; `None` for an aggregate.
     pub fn type_name(&self) -> Option<Word<'r>>
         ensures { capitals_of result ≡ (holding self.now).name }
     {
@@ -382,14 +381,14 @@ impl<'p, 'r> Part<'p, 'r> {
         }
     }
 
-    /// What is inside it at any depth, where it is a typed value; nothing where it is an aggregate.
+    /// Returns the content of a typed value, at any depth; indeterminate for an aggregate.
     pub(crate) fn inside(&self) -> Datum<'r, Part<'p, 'r>>
         ensures { datum_of holding result ≡ bare (holding self.now).inner }
     {
         self.content().inside()
     }
 
-    /// Its shape, where it is an aggregate.
+    /// Returns the shape of an aggregate; that of a LIST for a typed value.
     pub fn shape(&self) -> Shape<'p>
         ensures { shape_seen result ≡ (holding self.now).shape }
     {
@@ -399,7 +398,7 @@ impl<'p, 'r> Part<'p, 'r> {
         }
     }
 
-    /// The element of this index, counted from 0; nothing where there are fewer.
+    /// Returns the element at `index`, counted from 0; `Nothing` if there is no such element.
     pub fn element_value(&self, index: usize) -> Element<'p, 'r>
         ensures { element_datum result
             ≡ or_indeterminate (element_at index (holding self.now).elements) }
@@ -410,7 +409,7 @@ impl<'p, 'r> Part<'p, 'r> {
         }
     }
 
-    /// The index, in all of the aggregate, of the element of this index.
+    /// Returns the index, in the whole aggregate, of the element at `index`.
     pub fn whole_index(&self, index: usize) -> usize
         requires { index < size_of (holding self.now).elements }
         ensures { or_indeterminate (element_at result (whole_elements self.now))
@@ -422,10 +421,8 @@ impl<'p, 'r> Part<'p, 'r> {
         }
     }
 
-    /// Of all of the aggregate, the elements at these indices: what a QUERY keeps
+    /// Returns the elements of the whole aggregate at the indices `kept`: the result of a QUERY
     /// (ISO 10303-11, 12.6.7).
-    ///
-    /// An error says that memory ran out.
     pub fn keep(self, alloc: Global, kept: Vec<usize>) -> Result<Part<'p, 'r>, AllocError>
         ensures { IfOk result (λ p. holding p
             ≡ kept_of (holding self.entry) (picked kept.items (whole_elements self.entry))) }
@@ -439,9 +436,8 @@ impl<'p, 'r> Part<'p, 'r> {
         })
     }
 
-    /// The same value once more. Both share the indices of what a QUERY kept, if it is such a value.
-    ///
-    /// An error says that memory ran out.
+    /// Returns a copy. If the value is the result of a QUERY, the copy shares the indices of the
+    /// kept elements.
     pub fn again(&self, alloc: Global) -> Result<Part<'p, 'r>, AllocError>
         ensures { IfOk result (λ p. holding p ≡ holding self.now) }
     {

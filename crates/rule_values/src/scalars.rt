@@ -1,12 +1,12 @@
 //! What values of a population are compared by.
 
 ghost use Rattle.std.specs.Prelude.{◌≡◌};
-ghost use Rattle.step_values.specs.Slots.{node_value};
+ghost use Rattle.step_values.specs.steps.Slots.{node_value};
 ghost use Rattle.step_values.specs.Views.{word_of};
-ghost use Rattle.express_logic.specs.Comparing.{scalar};
+ghost use Rattle.express_logic.specs.Comparison.{scalar};
 ghost use Rattle.express_logic.specs.Views.{scalar_of};
 ghost use Rattle.conformance.specs.Values.{logical_of};
-ghost use Rattle.rule_values.specs.Coded.{is_logical, coded_element, coded_datum};
+ghost use Rattle.rule_values.specs.TableValues.{is_logical, coded_element, coded_datum};
 
 use crate::types::ValueTypes;
 use express_logic::binaries::AnyBinary;
@@ -14,18 +14,18 @@ use express_logic::logical::Logical;
 use express_logic::numbers::AnyNumber;
 use express_logic::scalar::Scalar;
 use express_logic::strings::AnyString;
-use schema_bases::base::Base;
+use schema_underlying_types::base::Base;
 use step_literals::literal::Word;
 use step_values::slot::{Node, Slot};
 
-/// Whether elements of a data type are logicals.
+/// Whether elements of this type are logicals.
 pub(crate) fn is_logical(base: Base) -> bool
     ensures { result ≡ is_logical base }
 {
     matches!(base, Base::Boolean | Base::Logical)
 }
 
-/// The logical that an element is (ISO 10303-21, 11.1).
+/// Returns the logical that an element of BOOLEAN or LOGICAL is (ISO 10303-21, 11.1).
 pub(crate) fn logical_of(word: Word<'_>) -> Logical
     ensures { result ≡ logical_of (word_of word.entry) }
 {
@@ -39,7 +39,7 @@ pub(crate) fn logical_of(word: Word<'_>) -> Logical
     }
 }
 
-/// What an element of the file is compared by.
+/// Returns what the element `word` of the type `base` is compared by.
 fn element_scalar<'r>(base: &Base, word: Word<'r>) -> Scalar<'r>
     ensures { scalar_of result ≡ scalar (coded_element base.now (word_of word.entry)) }
 {
@@ -50,7 +50,8 @@ fn element_scalar<'r>(base: &Base, word: Word<'r>) -> Scalar<'r>
     }
 }
 
-/// What a value of this data type is compared by: a typed one by what is inside.
+/// Returns what a value of the type `base` is compared by. A typed value is compared by its
+/// content.
 #[cycle(scalars)]
 pub(crate) fn value_scalar<'p, 'r>(
     types: &ValueTypes<'r>,

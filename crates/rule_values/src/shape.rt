@@ -2,22 +2,23 @@
 
 ghost use Rattle.std.specs.Prelude.{◌≡◌};
 ghost use Rattle.conformance.specs.Operations.{first_index, kept_shape};
-ghost use Rattle.rule_values.specs.Coded.{shape_seen, coded_shape};
+ghost use Rattle.rule_values.specs.TableValues.{shape_seen, coded_shape};
 
-use schema_bases::base::{Aggregate, Base, Collection};
+use schema_underlying_types::base::{Aggregate, Base, Collection};
 
-/// What order the elements of an aggregate have, and what their indices are (ISO 10303-11, 8.2).
+/// The order and the indices of the elements of an aggregate (ISO 10303-11, 8.2).
 #[derive(Clone, Copy)]
 pub enum Shape<'p> {
     List,
     /// A SET or a BAG.
     Bag,
-    /// An ARRAY of this data type.
+    /// An ARRAY of this type.
     Array(&'p Aggregate),
 }
 
 impl<'p> Shape<'p> {
-    /// The shape of what a QUERY keeps: of an ARRAY that is a LIST (ISO 10303-11, 12.6.7).
+    /// Returns the shape of the result of a QUERY. That of an ARRAY is a LIST (ISO 10303-11,
+    /// 12.6.7).
     pub(crate) fn kept(self) -> Shape<'p>
         ensures { shape_seen result ≡ kept_shape (shape_seen self.entry) }
     {
@@ -28,7 +29,8 @@ impl<'p> Shape<'p> {
         }
     }
 
-    /// The index of the first element: of an ARRAY the declared one, else 1 (ISO 10303-11, 15.17).
+    /// Returns the index of the first element: the declared one of an ARRAY, if any, otherwise 1
+    /// (ISO 10303-11, 15.17).
     pub(crate) fn first_index(self) -> Option<i64>
         ensures { result ≡ first_index (shape_seen self.entry) }
     {
@@ -40,7 +42,7 @@ impl<'p> Shape<'p> {
     }
 }
 
-/// The shape of values in order, by their data type.
+/// Returns the shape of values with an order, whose type is `base`.
 pub(crate) fn shape_of(base: &Base) -> Shape<'_>
     ensures { shape_seen result ≡ coded_shape base.now }
 {

@@ -1,28 +1,28 @@
-//! What data types ask of values, without the schema that declares them.
+//! The requirements of data types on values, without the schema that declares them.
 
 ghost use Rattle.std.specs.Prelude.{◌≡◌, ◌<◌, Some, IfOk, OnOk, if◌then◌else◌, length};
 ghost use Rattle.step_values.specs.Views.{word_of};
 ghost use Rattle.schema_semantics.specs.Names.{Name};
 ghost use Rattle.schema_names.specs.Numbers.{number_of};
 ghost use Rattle.schema_names.specs.Schemas.{the_schema};
-ghost use Rattle.schema_bases.specs.Making.{entry};
-ghost use Rattle.schema_bases.specs.Tables.{AreBases};
-ghost use Rattle.rule_values.specs.Named.{found, names_entry};
-ghost use Rattle.rule_values.specs.Coded.{number_base, named_base, element_base};
+ghost use Rattle.schema_underlying_types.specs.BaseEntries.{entry};
+ghost use Rattle.schema_underlying_types.specs.Tables.{AreBases};
+ghost use Rattle.rule_values.specs.NamedValues.{found, names_entry};
+ghost use Rattle.rule_values.specs.TableValues.{number_base, named_base, element_base};
 ghost use Rattle.rule_values.specs.Tables.{AreValueTypes};
 
 use indexmap::IndexMap;
-use schema_bases::base::Base;
-use schema_bases::lookup::Bases;
+use schema_underlying_types::base::Base;
+use schema_underlying_types::lookup::Bases;
 use std::alloc::{AllocError, Global};
 use std::hash::RandomState;
 use step_literals::literal::Word;
 
-/// The numbers of the declarations of names. They are hashed by keys that the author of a text
-/// doesn't know, so that nobody can choose names that are slow to find.
+/// The numbers of declarations by name. Hash keys are random, so that no text can be crafted to
+/// have names that collide.
 type Numbers<'r> = IndexMap<Word<'r>, u32, RandomState>;
 
-/// What the data types of a schema ask of values, by number and by name.
+/// The requirements of the data types of a schema on values, by number and by name.
 #[derive(Drop)]
 pub struct ValueTypes<'r> {
     by_number: &'r [Base],
@@ -30,7 +30,7 @@ pub struct ValueTypes<'r> {
     numbers: Numbers<'r>,
 }
 
-/// What stands at a number; INTEGER where nothing does.
+/// Returns the element at index `number`; INTEGER if there is none.
 fn entry(bases: &[Base], number: u32) -> &Base
     ensures { result.now ≡ entry bases.now number }
 {
@@ -40,7 +40,8 @@ fn entry(bases: &[Base], number: u32) -> &Base
     }
 }
 
-/// Gives the name of a declaration its number, in place of that of a later one of that name.
+/// Maps the name of the declaration numbered `number` to that number, in place of the number of a
+/// later declaration with that name.
 fn add_name<'r, 't, 'a: 'r>(
     numbers: &mut Numbers<'r>,
     bases: &Bases<'a, 't, 'r>,
@@ -58,7 +59,8 @@ fn add_name<'r, 't, 'a: 'r>(
     Ok(())
 }
 
-/// The numbers of the declarations of a schema, by name: of several the first.
+/// Returns the numbers of the declarations of a schema by name. If several have the same name, the
+/// first counts.
 fn numbers_of<'r, 't, 'a: 'r>(
     alloc: Global,
     keys: RandomState,
@@ -75,7 +77,8 @@ fn numbers_of<'r, 't, 'a: 'r>(
 }
 
 impl<'r> ValueTypes<'r> {
-    /// Those of a schema, by the tables of its data types. Names are hashed by these keys.
+    /// Returns the table of a schema, built from the tables of its data types. Names are hashed by
+    /// `keys`.
     pub fn of<'t, 'a: 'r>(
         alloc: Global,
         keys: RandomState,
@@ -92,14 +95,14 @@ impl<'r> ValueTypes<'r> {
         })
     }
 
-    /// What the data type of a number asks; INTEGER where there is none.
+    /// Returns the underlying type of the data type numbered `number`; INTEGER if there is none.
     pub fn of_number(&self, number: u32) -> &'r Base
         ensures { result.now ≡ number_base self.now number }
     {
         entry(self.by_number, number)
     }
 
-    /// What a name stands for; INTEGER where no type or entity has it.
+    /// Returns the underlying type of the type or entity called `name`; INTEGER if there is none.
     pub fn of_name(&self, name: Word<'_>) -> &'r Base
         ensures { result.now ≡ named_base self.now (word_of name.entry) }
     {
@@ -109,7 +112,8 @@ impl<'r> ValueTypes<'r> {
         }
     }
 
-    /// What is asked of the elements of an aggregate; of what is no aggregate, the same.
+    /// Returns the underlying type of the elements if `base` is an aggregate, otherwise `base`
+    /// itself.
     pub fn of_elements<'p>(&self, base: &'p Base) -> &'p Base
     where
         'r: 'p,

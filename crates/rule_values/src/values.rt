@@ -1,25 +1,25 @@
-//! Values of a population as what they are worth.
+//! The data that values of a population are in expressions.
 
 ghost use Rattle.std.specs.Prelude.{◌≡◌};
-ghost use Rattle.step_values.specs.Slots.{node_value};
+ghost use Rattle.step_values.specs.steps.Slots.{node_value};
 ghost use Rattle.step_values.specs.Views.{word_of};
 ghost use Rattle.express_logic.specs.Views.{datum_of};
-ghost use Rattle.conformance.specs.Meanings.{instances};
+ghost use Rattle.conformance.specs.Meanings.{instance_data};
 ghost use Rattle.conformance.specs.Operations.{bare, only};
-ghost use Rattle.rule_values.specs.Coded.{coded_datum, coded_element};
+ghost use Rattle.rule_values.specs.TableValues.{coded_datum, coded_element};
 ghost use Rattle.rule_values.specs.Parts.{holding};
 
 use crate::part::Part;
 use crate::scalars::{is_logical, logical_of};
 use crate::types::ValueTypes;
 use express_logic::datum::Datum;
-use schema_bases::base::Base;
+use schema_underlying_types::base::Base;
 use step_literals::literal::Word;
 use step_values::slot::{Node, Slot};
 
-/// What a value of this data type is worth.
+/// Returns the datum of a value of the type `base`.
 ///
-/// An element of the file is a logical where the data type is BOOLEAN or LOGICAL, else an item of an
+/// An element of the file is a logical if the type is BOOLEAN or LOGICAL, otherwise an item of an
 /// enumeration.
 pub fn value_datum<'p, 'r>(
     types: &'p ValueTypes<'r>,
@@ -31,13 +31,14 @@ pub fn value_datum<'p, 'r>(
     node_datum(types, base, value.node())
 }
 
-/// What a value of this outermost part is worth.
+/// Returns the datum of a value whose outermost part is `node`.
 fn node_datum<'p, 'r>(
     types: &'p ValueTypes<'r>,
     base: &'p Base,
     node: Node<'p, 'r>,
 ) -> Datum<'r, Part<'p, 'r>>
-    ensures { datum_of holding result ≡ coded_datum types.entry.now base.now (node_value node.entry) }
+    ensures { datum_of holding result ≡ coded_datum types.entry.now base.now
+        (node_value node.entry) }
 {
     match node {
         Node::Unset | Node::Derived => Datum::Indeterminate,
@@ -52,7 +53,7 @@ fn node_datum<'p, 'r>(
     }
 }
 
-/// What an element of the file is worth.
+/// Returns the datum of the element `word` of the file.
 fn element_datum<'p, 'r>(base: &Base, word: Word<'r>) -> Datum<'r, Part<'p, 'r>>
     ensures { datum_of holding result ≡ coded_element base.now (word_of word.entry) }
 {
@@ -63,8 +64,8 @@ fn element_datum<'p, 'r>(base: &Base, word: Word<'r>) -> Datum<'r, Part<'p, 'r>>
     }
 }
 
-/// What is inside a value of this data type, where it is a typed one, at any depth; else what it is
-/// worth.
+/// Returns the datum of the content of a typed value, at any depth, and the datum of any other
+/// value.
 #[cycle(inside)]
 pub(crate) fn bare_value<'p, 'r>(
     types: &'p ValueTypes<'r>,
@@ -91,9 +92,9 @@ fn bare_node<'p, 'r>(
     }
 }
 
-/// The instance of the only name; indeterminate where there are more, or none.
+/// Returns the instance if `names` has exactly one, otherwise indeterminate.
 pub fn only_instance<'p, 'r>(names: &[u64]) -> Datum<'r, Part<'p, 'r>>
-    ensures { datum_of holding result ≡ only (instances names.now) }
+    ensures { datum_of holding result ≡ only (instance_data names.now) }
 {
     if names.len() == 1 {
         Datum::Instance(names[0])

@@ -5,7 +5,7 @@ ghost use Rattle.std.specs.Option.{option_map};
 ghost use Rattle.express_syntax.specs.ExpressionViews.{capitals};
 ghost use Rattle.conformance.specs.Expressions.{variable};
 ghost use Rattle.rule_values.specs.Parts.{element_datum};
-ghost use Rattle.rule_values.specs.Scopes.{variables_of};
+ghost use Rattle.rule_values.specs.steps.Scopes.{variables_of};
 
 use crate::element::Element;
 use step_literals::literal::Word;
@@ -17,7 +17,8 @@ pub struct Variable<'p, 'r> {
     pub value: Element<'p, 'r>,
 }
 
-/// The value of the innermost variable of this name, the last of all; none where there is none.
+/// Returns the value of the innermost variable called `name`, if any. The innermost variable is the
+/// last.
 pub fn find<'v, 'p, 'r>(
     variables: &'v [Variable<'p, 'r>],
     name: Word<'_>,

@@ -11,8 +11,8 @@ use Rattle.schema_semantics.proofs.Lists.{among-left, among-right, among-either}
 use Rattle.schema_attributes.specs.declared.attributes.Attributes.{Attributes}
 use Rattle.schema_attributes.specs.declared.declaration.AttributeDeclaration.{AttributeDeclaration}
 use Rattle.schema_attributes.specs.declared.row.Row.{Row}
-use Rattle.schema_attributes.specs.Declarations.{items_of, row_in, found}
-use Rattle.schema_attributes.specs.Gathering.{Holds, AddsAll, SaysIs}
+use Rattle.schema_attributes.specs.steps.Declarations.{items_of, row_in, found}
+use Rattle.schema_attributes.specs.steps.Gathering.{Holds, AddsAll, SaysIs}
 
 -- words of one name
 one-spelling : (v w : Word) → same_word v w ≡ true → capitals v ≡ capitals w

@@ -6,14 +6,14 @@ use Rattle.express_syntax.specs.Schemas.{Schema, entity, Entity, own, Explicit, 
 use Rattle.express_syntax.specs.Profile.{Every}
 use Rattle.schema_semantics.specs.Names.{Name, OneOf, Among, listed}
 use Rattle.schema_semantics.specs.Faults.{IsResolved}
-use Rattle.schema_semantics.specs.Shapes.{AreAlike}
+use Rattle.schema_semantics.specs.Shapes.{AreAlikeTypes}
 use Rattle.schema_semantics.specs.Attributes.{collected, DeclaresAs, IsFirstType, HasFirstShape}
 use Rattle.schema_semantics.proofs.Supertypes.{found}
-use Rattle.schema_data_types.specs.Numbered.{all_data_types}
+use Rattle.schema_data_types.specs.NumberedTypes.{all_data_types}
 use Rattle.schema_data_types.specs.declared.shapes.Shape.{Shape}
-use Rattle.schema_data_types.specs.Shaped.{AreShapes, IsKnown, DecidesAlike}
+use Rattle.schema_data_types.specs.ShapeTables.{AreShapes, IsKnown, DecidesAlike}
 use Rattle.schema_data_types.specs.Laws.{AreKnownOf, IsKnownInverse, DataTypesAreKnown}
-use Rattle.schema_attributes.specs.Redeclaring.{IsFirstTypeAt}
+use Rattle.schema_attributes.specs.steps.Redeclaring.{IsFirstTypeAt}
 
 module _ (law : DataTypesAreKnown) (s : Schema) (r : IsResolved s) where
   one-known : {X : Type 0} (f : X → DataType) (P : X → Type 0) (k : DataType) (xs : List X)
@@ -50,7 +50,7 @@ module _ (law : DataTypesAreKnown) (s : Schema) (r : IsResolved s) where
           → IsFirstTypeAt s p a (Some m) → IsTrue b ↔ HasFirstShape s p a k
       first-shape-told m b decides (l, there, first, only) = (forth, back)
         where
-          both : IsTrue b ↔ AreAlike s l k
+          both : IsTrue b ↔ AreAlikeTypes s l k
           both =
               let same = h.same in
               let low = slice_get_within (all_data_types s) m l there in
@@ -62,4 +62,4 @@ module _ (law : DataTypesAreKnown) (s : Schema) (r : IsResolved s) where
           forth t = (l, first, both.0 t)
 
           back : HasFirstShape s p a k → IsTrue b
-          back (x, other, alike) = both.1 (subst (λ y. AreAlike s y k) (only x other) alike)
+          back (x, other, alike) = both.1 (subst (λ y. AreAlikeTypes s y k) (only x other) alike)

@@ -7,19 +7,19 @@ use Rattle.std.proofs.lemmas.Bool.Decides.{nat_tests}
 use Rattle.std.proofs.lemmas.List.{append_assoc, length-map}
 use Rattle.express_syntax.specs.Schemas.{Schema, Declaration, type, entity, skipped, Entity, Attribute, own, redeclared, Explicit, Derived, Inverse, DataType}
 use Rattle.schema_semantics.specs.Names.{Name, OneOf, Among, listed, own_names, attribute_names, explicit_names, derived_names, IsEntityAt}
-use Rattle.schema_semantics.specs.Faults.{declared, declared_from, in_scope, items_of, IsResolved}
+use Rattle.schema_semantics.specs.Faults.{declared, declared_from, in_scope, enumerated_items, IsResolved}
 use Rattle.schema_semantics.specs.Attributes.{collected, DeclaresAs, IsFirstType}
 use Rattle.schema_semantics.proofs.Supertypes.{found}
 use Rattle.schema_semantics.proofs.Lists.{among-left, among-right, among-map, AreFresh, are-fresh, fresh-right}
 use Rattle.schema_names.specs.Numbers.{AreAt}
 use Rattle.schema_names.proofs.Items.{front-at, back-at}
 use Rattle.schema_names.proofs.Rows.{map-joined, flat-joined}
-use Rattle.schema_places.specs.Owned.{is_own}
-use Rattle.schema_places.proofs.Owning.{own-listed}
-use Rattle.schema_places.proofs.Having.{included, includes-it}
-use Rattle.schema_data_types.specs.Numbered.{attribute_types, explicit_types, derived_types, all_data_types}
-use Rattle.schema_attributes.specs.Redeclaring.{IsFirstTypeAt}
-use Rattle.schema_attributes.specs.Searching.{Typing, explicit_typing, derived_typing, inverse_typing, typings, types_own, number_where}
+use Rattle.schema_explicit_attributes.specs.steps.Owned.{is_own}
+use Rattle.schema_explicit_attributes.proofs.Owning.{own-listed}
+use Rattle.schema_explicit_attributes.proofs.Having.{included, includes-it}
+use Rattle.schema_data_types.specs.NumberedTypes.{attribute_types, explicit_types, derived_types, all_data_types}
+use Rattle.schema_attributes.specs.steps.Redeclaring.{IsFirstTypeAt}
+use Rattle.schema_attributes.specs.steps.Searching.{Typing, explicit_typing, derived_typing, inverse_typing, typings, types_own, number_where}
 
 -- searching
 pub where-mapped : {A B : Type 0} (f : A → B) (test : B → Bool) (row : List ℕ) (xs : List A)
@@ -104,7 +104,7 @@ where-unplaced {A} test row xs e = by (nat_lt (position_or_len test xs) (length 
     by false t e =
         let le : length xs ≤ position_or_len test xs = grind (arith, nat_tests) in sym (unplaced test row xs le)
 
--- .. of what a list is mapped to
+-- positions in a list that is mapped twice
 module _ {X Y Z : Type 0} (f : X → Y) (g : Y → Z) (test : Z → Bool) (own : X → Bool)
     (same : (x : X) → own x ≡ test (g (f x))) (row : List ℕ) (xs : List X) where
   twice-mapped : number_where own row xs ≡ number_where test row (map g (map f xs))
@@ -455,7 +455,7 @@ fresh-in : (k : ℕ) (ds : List Declaration) (e : Entity) → AreFresh (declared
 fresh-in k [] e f m = elim m [ ]
 fresh-in k (type t ∷ ds) e f (inl h) = absurd (cc)
 fresh-in k (type t ∷ ds) e f (inr m) =
-    fresh-in (k + 1) ds e (fresh-right (in_scope k (items_of t.underlying)) (declared_from (k + 1) ds) f.1) m
+    fresh-in (k + 1) ds e (fresh-right (in_scope k (enumerated_items t.underlying)) (declared_from (k + 1) ds) f.1) m
 fresh-in k (entity x ∷ ds) e f (inl h) =
     let same : x ≡ e = cc in
     subst (λ y. AreFresh (attribute_names y)) same

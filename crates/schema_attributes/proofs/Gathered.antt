@@ -7,7 +7,7 @@ use Rattle.std.proofs.lemmas.Option.{slice_get_within}
 use Rattle.schema_semantics.specs.Names.{Name}
 use Rattle.schema_attributes.specs.declared.attributes.Attributes.{Attributes}
 use Rattle.schema_attributes.specs.declared.declaration.AttributeDeclaration.{AttributeDeclaration}
-use Rattle.schema_attributes.specs.Gathering.{Holds, AddsAll, AreNth}
+use Rattle.schema_attributes.specs.steps.Gathering.{Holds, AddsAll, AreNth}
 
 abbrev pub Saying : Type 1
 Saying = Name → AttributeDeclaration → Type 0

@@ -2,25 +2,25 @@
 use Rattle.std.specs.Prelude.{◌≡◌, ℕ, ◌+◌, suc, List, [], ◌∷◌, ◌++◌, Option, None, Some, flat_map, take, length, slice_get, ◌⊎◌, ◌↔◌}
 use Rattle.std.proofs.Common.{refl, inl, inr, ap, sym, subst, ◌∙◌, arith, zero}
 use Rattle.std.proofs.lemmas.List.{length-map, length-append}
-use Rattle.digraph.specs.Graphs.{Graph, next}
+use Rattle.graphs.specs.Graphs.{Graph, next}
 use Rattle.step_literals.specs.declared.literal.Word.{Word}
 use Rattle.express_syntax.specs.ExpressionViews.{capitals}
 use Rattle.express_syntax.specs.Schemas.{Schema, type, entity, skipped, Entity, Attribute, own, redeclared, Explicit, Derived, Inverse, DataType}
 use Rattle.schema_semantics.specs.Names.{Name, OneOf, Among, listed, entities, IsEntityAt, Declares}
 use Rattle.schema_semantics.specs.Faults.{IsResolved}
 use Rattle.schema_semantics.specs.Attributes.{collected, HasFirstShape, MayHaveType, Derivation, IsNth, Derives}
-use Rattle.schema_names.specs.Numbers.{HasNumber, IsAt, AreRowsOf}
+use Rattle.schema_names.specs.Numbers.{HasNumber, IsAt, AreNumberRowsOf}
 use Rattle.schema_names.proofs.Numbers.{stands-at, each-number, one-name}
 use Rattle.schema_semantics.proofs.Recursion.{declared-entity}
-use Rattle.schema_places.proofs.OwnNumbers.{own-number-of}
-use Rattle.schema_data_types.specs.Numbered.{whole_types, all_data_types, explicit_types, derived_types, inverse_types, attribute_types}
+use Rattle.schema_explicit_attributes.proofs.OwnNumbers.{own-number-of}
+use Rattle.schema_data_types.specs.NumberedTypes.{whole_types, all_data_types, explicit_types, derived_types, inverse_types, attribute_types}
 use Rattle.schema_attributes.specs.declared.attributes.Attributes.{Attributes}
 use Rattle.schema_attributes.specs.declared.declaration.AttributeDeclaration.{AttributeDeclaration}
-use Rattle.schema_attributes.specs.declared.gathering.Class.{Class}
-use Rattle.schema_attributes.specs.declared.gathering.Class.TheVariants as classes
+use Rattle.schema_attributes.specs.declared.attribute_collection.Class.{Class}
+use Rattle.schema_attributes.specs.declared.attribute_collection.Class.TheVariants as classes
 use Rattle.schema_attributes.specs.Derivations.{derivations_from, derivations_in, all_derivations, HasDerivation}
-use Rattle.schema_attributes.specs.Declarations.{IsDeclaredBy, GivesType, GivesValue, AreDeclarations, found}
-use Rattle.schema_attributes.specs.Gathering.{AddsAll, Holds, Allows, Says, SaysEntity, SaysSchema}
+use Rattle.schema_attributes.specs.steps.Declarations.{IsDeclaredBy, GivesType, GivesValue, AreDeclarations, found}
+use Rattle.schema_attributes.specs.steps.Gathering.{AddsAll, Holds, Allows, Says, SaysEntity, SaysSchema}
 use Rattle.schema_attributes.proofs.Rows.{number-at, in-first, in-second, at-map, at-among, among-at, row-of}
 use Rattle.schema_attributes.proofs.ByName.{found-held}
 use Rattle.schema_attributes.proofs.Telling.{one-of, of-one, Lets, TellsOf, StandsIn, Tells, origin-declares, told-declares, declares-told, told-type, type-told, told-value, value-told}
@@ -80,7 +80,7 @@ IsValue s (Some j) None = ⊥
 IsValue s (Some j) (Some d) = HasDerivation s j d
 
 module _ (s : Schema) (r : IsResolved s) (law : (i : ℕ) (e : Entity) → IsAt s i (entity e) → HasNumber s e.name i)
-    (rows : Graph) (h : AreRowsOf whole_types (all_data_types s) s.declarations rows) where
+    (rows : Graph) (h : AreNumberRowsOf whole_types (all_data_types s) s.declarations rows) where
   -- x says it by number
   abbrev pub Shows : AttributeDeclaration → Name → DataType → Option Derivation → Type 0
   Shows x p k o = HasNumber s p x.entity × (slice_get (all_data_types s) x.data_type ≡ Some k) × IsValue s x.derivation o
@@ -336,7 +336,7 @@ entity-stands s r e m =
 
 -- what is found of what is gathered
 pub found-are : (s : Schema) → IsResolved s → (rows : Graph)
-    → AreRowsOf whole_types (all_data_types s) s.declarations rows → (old new : Attributes)
+    → AreNumberRowsOf whole_types (all_data_types s) s.declarations rows → (old new : Attributes)
     → ((w : Word) → found old w ≡ []) → AddsAll old (SaysSchema s rows) new → (w : Word)
     → AreDeclarations s (capitals w) (found new w)
 found-are s r rows h old new none adds w =

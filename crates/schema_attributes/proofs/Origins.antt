@@ -13,8 +13,8 @@ use Rattle.schema_semantics.proofs.Lists.{first-is-one, first-holds}
 use Rattle.schema_semantics.proofs.Recursion.{make_line, solutions-are-one}
 use Rattle.schema_names.specs.Numbers.{number_of, HasNumber, IsAt}
 use Rattle.schema_names.proofs.Numbers.{stands-at, each-number}
-use Rattle.schema_places.specs.Origins.{IsNumberOf}
-use Rattle.schema_attributes.specs.Redeclaring.{IsRedeclaredAt}
+use Rattle.schema_explicit_attributes.specs.steps.Origins.{IsNumberOf}
+use Rattle.schema_attributes.specs.steps.Redeclaring.{IsRedeclaredAt}
 
 -- what is seen as an entity is one
 pub seen-entity : (d : DeclarationValue) → ((x : EntityValue) → d ≡ declarations.Entity x → ⊥) → (e : Entity)

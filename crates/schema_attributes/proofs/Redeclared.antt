@@ -6,9 +6,9 @@ use Rattle.schema_semantics.specs.Names.{Name, IsEntity}
 use Rattle.schema_semantics.specs.Attributes.{IsRedeclaration}
 use Rattle.schema_names.specs.Numbers.{HasNumber}
 use Rattle.schema_attributes.specs.declared.declaration.AttributeDeclaration.{AttributeDeclaration}
-use Rattle.schema_attributes.specs.declared.gathering.Class.{Class}
-use Rattle.schema_attributes.specs.Gathering.{Says, SaysIs, Allows}
-use Rattle.schema_attributes.specs.Redeclaring.{IsRedeclaredAt}
+use Rattle.schema_attributes.specs.declared.attribute_collection.Class.{Class}
+use Rattle.schema_attributes.specs.steps.Gathering.{Says, SaysIs, Allows}
+use Rattle.schema_attributes.specs.steps.Redeclaring.{IsRedeclaredAt}
 
 pub is-true : IsTrue true
 is-true = refl

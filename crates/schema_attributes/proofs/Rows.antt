@@ -1,7 +1,7 @@
 -- Rows of data types, by the declarations that they are of.
 use Rattle.std.specs.Prelude.{◌≡◌, ℕ, ◌+◌, ◌<◌, List, [], ◌∷◌, ◌++◌, Option, Some, map, length, slice_get, get_or}
 use Rattle.std.proofs.Common.{refl, inl, inr, ap, sym, subst, ◌∙◌, arith, zero, suc}
-use Rattle.digraph.specs.Graphs.{Graph, next}
+use Rattle.graphs.specs.Graphs.{Graph, next}
 use Rattle.express_syntax.specs.declared.tree.Declaration.{Declaration as Declared}
 use Rattle.express_syntax.specs.declared.tree.Declaration.TheVariants as declared
 use Rattle.express_syntax.specs.declared.tree.Entity.{Entity as DeclaredEntity}
@@ -10,14 +10,14 @@ use Rattle.express_syntax.specs.Views.{declaration_of}
 use Rattle.express_syntax.specs.Profile.{Every}
 use Rattle.schema_semantics.specs.Names.{Name, Among, listed}
 use Rattle.schema_semantics.specs.Faults.{IsResolved}
-use Rattle.schema_names.specs.Numbers.{IsAt, AreAt, AreRowsOf}
+use Rattle.schema_names.specs.Numbers.{IsAt, AreAt, AreNumberRowsOf}
 use Rattle.schema_names.proofs.Items.{front-at, back-at, row-at}
-use Rattle.schema_data_types.specs.Numbered.{whole_types, all_data_types, explicit_types, derived_types, inverse_types, attribute_types}
-use Rattle.schema_data_types.specs.Shaped.{IsKnown}
+use Rattle.schema_data_types.specs.NumberedTypes.{whole_types, all_data_types, explicit_types, derived_types, inverse_types, attribute_types}
+use Rattle.schema_data_types.specs.ShapeTables.{IsKnown}
 use Rattle.schema_data_types.specs.Laws.{DataTypesAreKnown}
 use Rattle.schema_attributes.specs.declared.declaration.AttributeDeclaration.{AttributeDeclaration}
 use Rattle.schema_attributes.specs.Derivations.{derivations_from}
-use Rattle.schema_attributes.specs.Gathering.{AreKnownFrom, SaysDeclaration}
+use Rattle.schema_attributes.specs.steps.Gathering.{AreKnownFrom, SaysDeclaration}
 
 -- the number of an item of a row
 pub number-at : {A : Type 0} (all : List A) (row : List ℕ) (xs : List A) (n : ℕ) (x : A) → AreAt all row xs
@@ -75,7 +75,7 @@ derivations-many e n (d ∷ ds) = ap (λ m. suc m) (derivations-many e (n + 1) d
 
 module _ (s : Schema) where
   -- the row of an entity
-  pub row-of : (rows : Graph) → AreRowsOf whole_types (all_data_types s) s.declarations rows → (i : ℕ) (e : Entity)
+  pub row-of : (rows : Graph) → AreNumberRowsOf whole_types (all_data_types s) s.declarations rows → (i : ℕ) (e : Entity)
       → IsAt s i (entity e) → AreAt (all_data_types s) (next rows i) (attribute_types e)
   row-of rows h i e at = row-at whole_types (all_data_types s) s.declarations rows i (entity e) h at
 
@@ -86,7 +86,7 @@ module _ (s : Schema) where
       (in-first (explicit_types e.explicits) (derived_types (listed e.derived)) n k h)
 
   -- its first data types are known
-  pub known-from : DataTypesAreKnown → IsResolved s → (rows : Graph) → AreRowsOf whole_types (all_data_types s) s.declarations rows
+  pub known-from : DataTypesAreKnown → IsResolved s → (rows : Graph) → AreNumberRowsOf whole_types (all_data_types s) s.declarations rows
       → (i : ℕ) (e : Entity) → IsAt s i (entity e) → AreKnownFrom s (length e.explicits) (next rows i)
   known-from law r rows h i e at n t lt here =
       let (x, there) = at-within e.explicits n lt in

@@ -7,8 +7,8 @@ use Rattle.schema_semantics.specs.Faults.{IsResolved}
 use Rattle.schema_semantics.specs.Attributes.{collected, DeclaresAs, IsFirstType, IsRedeclaration, HasFirstShape, RedeclaresAs, MayHaveType, Derivation, IsNth, IsDerivation, Derives}
 use Rattle.schema_semantics.proofs.Lists.{among-left, among-right, among-either, among-map, among-flat, from-flat, first-holds}
 use Rattle.schema_semantics.proofs.Supertypes.{entity-name}
-use Rattle.schema_attributes.specs.declared.gathering.Class.{Class}
-use Rattle.schema_attributes.specs.declared.gathering.Class.TheVariants as classes
+use Rattle.schema_attributes.specs.declared.attribute_collection.Class.{Class}
+use Rattle.schema_attributes.specs.declared.attribute_collection.Class.TheVariants as classes
 
 -- one of a list
 pub one-of : {A : Type 0} (P : A → Type 0) (xs : List A) (x : A) → Among x xs → P x → OneOf P xs

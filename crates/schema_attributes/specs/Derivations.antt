@@ -4,7 +4,7 @@ use Rattle.express_syntax.specs.Schemas.{Schema, Declaration, type, entity, skip
 use Rattle.schema_semantics.specs.Names.{Name, OneOf, listed}
 use Rattle.schema_semantics.specs.Attributes.{Derivation}
 
--- those of e, from the n-th of DERIVE on
+-- The derived attributes of e, from the n-th of its DERIVE clause on.
 abbrev pub derivations_from : Name → ℕ → List Derived → List Derivation
 derivations_from e n [] = []
 derivations_from e n (d ∷ ds) = (e, n) ∷ derivations_from e (n + 1) ds
@@ -14,14 +14,14 @@ derivations_in (type t) = []
 derivations_in (entity e) = derivations_from e.name 0 (listed e.derived)
 derivations_in (skipped p) = []
 
--- in the order of the text
+-- The derived attributes of a schema, in the order of the text.
 abbrev pub all_derivations : Schema → List Derivation
 all_derivations s = flat_map derivations_in s.declarations
 
--- d has the number j
+-- d has the number j.
 abbrev pub HasDerivation : Schema → ℕ → Derivation → Type 0
 HasDerivation s j d = slice_get (all_derivations s) j ≡ Some d
 
--- the number of d is among these
+-- The number of d is in the list.
 abbrev pub HoldsDerivation : Schema → List ℕ → Derivation → Type 0
 HoldsDerivation s js d = OneOf (λ (j : ℕ). HasDerivation s j d) js

@@ -1,5 +1,2 @@
 pub mod Derivations
-pub mod Gathering
-pub mod Declarations
-pub mod Redeclaring
-pub mod Searching
+pub mod steps

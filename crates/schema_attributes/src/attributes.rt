@@ -1,4 +1,4 @@
-//! The attributes of a schema by their names.
+//! The attribute declarations of a schema, by name.
 
 ghost use Rattle.std.specs.Prelude.{
   ◌≡◌,
@@ -9,20 +9,20 @@ ghost use Rattle.std.specs.Prelude.{
   IfOk,
   OnOk,
 };
-ghost use Rattle.digraph.specs.Graphs.{graph_of};
+ghost use Rattle.graphs.specs.Graphs.{graph_of};
 ghost use Rattle.express_syntax.specs.ExpressionViews.{capitals};
 ghost use Rattle.schema_semantics.specs.Faults.{IsResolved};
-ghost use Rattle.schema_names.specs.Numbers.{AreRowsOf};
+ghost use Rattle.schema_names.specs.Numbers.{AreNumberRowsOf};
 ghost use Rattle.schema_names.specs.Schemas.{the_schema};
-ghost use Rattle.schema_data_types.specs.Numbered.{whole_types, all_data_types};
-ghost use Rattle.schema_data_types.specs.Shaped.{AreShapes};
-ghost use Rattle.schema_places.specs.Lines.{HaveLines};
+ghost use Rattle.schema_data_types.specs.NumberedTypes.{whole_types, all_data_types};
+ghost use Rattle.schema_data_types.specs.ShapeTables.{AreShapes};
+ghost use Rattle.schema_explicit_attributes.specs.SupertypeLines.{HaveLines};
 ghost use Rattle.step_literals.specs.declared.literal.Word.{Word};
-ghost use Rattle.schema_attributes.specs.Declarations.{AreAttributes, row_in, found};
-ghost use Rattle.schema_attributes.specs.Gathering.{AddsAll, SaysIs};
+ghost use Rattle.schema_attributes.specs.steps.Declarations.{AreAttributes, row_in, found};
+ghost use Rattle.schema_attributes.specs.steps.Gathering.{AddsAll, SaysIs};
 
+use crate::attribute_collection::{Sources, gathered};
 use crate::declaration::AttributeDeclaration;
-use crate::gathering::{Sources, gathered};
 use crate::row::Row;
 use indexmap::IndexMap;
 use schema_data_types::forms::DataTypes;
@@ -32,17 +32,17 @@ use std::alloc::{AllocError, Global};
 use std::hash::RandomState;
 use step_literals::literal::Word;
 
-/// The rows of attributes, by their names.
+/// Rows of attribute declarations, by name.
 type Rows<'a> = IndexMap<Word<'a>, Row, RandomState>;
 
-/// The attributes of a schema, by name. Names are hashed by keys that the author of a text doesn't
-/// know, so that nobody can choose names that are slow to find.
+/// The attribute declarations of a schema, by name. The hash keys are random, so no schema can be
+/// crafted to collide.
 #[derive(Drop)]
 pub struct Attributes<'a> {
     rows: Rows<'a>,
 }
 
-/// The row at a place; an empty one where there is none.
+/// Returns the row at an index, if any, otherwise an empty one.
 fn row_at<'r>(rows: &'r Rows<'_>, place: usize) -> &'r [AttributeDeclaration]
     ensures { result.now ≡ row_in (option_map (λ e. e.1) (slice_get rows.now.entries place)) }
 {
@@ -53,7 +53,7 @@ fn row_at<'r>(rows: &'r Rows<'_>, place: usize) -> &'r [AttributeDeclaration]
 }
 
 impl<'a> Attributes<'a> {
-    /// None yet, with room for as many names.
+    /// Returns an empty table with room for `count` names.
     pub(crate) fn with_room(
         alloc: Global,
         keys: RandomState,
@@ -65,13 +65,14 @@ impl<'a> Attributes<'a> {
         Ok(Attributes { rows })
     }
 
-    /// Adds what is said of an attribute of this name.
+    /// Adds a declaration of an attribute `name`.
     pub(crate) fn add(
         &mut self,
         name: Word<'a>,
         declaration: AttributeDeclaration,
     ) -> Result<(), AllocError>
-        ensures { OnOk result (AddsAll self.old (SaysIs (capitals name.entry) declaration) self.new) }
+        ensures { OnOk result (AddsAll self.old
+            (SaysIs (capitals name.entry) declaration) self.new) }
     {
         let alloc = *self.rows.allocator();
         if let Some(row) = self.rows.get_mut(&name) {
@@ -81,8 +82,10 @@ impl<'a> Attributes<'a> {
         Ok(())
     }
 
-    /// The attributes of a schema whose names are resolved, over its data types with their shapes,
-    /// and the line of each entity.
+    /// Returns the attribute declarations of a schema whose names are resolved.
+    ///
+    /// `data_types` are its data types and `shapes` their shapes. `lines` has the supertype chain
+    /// of each entity. Names are hashed with `keys`.
     pub fn of(
         alloc: Global,
         keys: RandomState,
@@ -92,7 +95,7 @@ impl<'a> Attributes<'a> {
         shapes: &[Shape],
     ) -> Result<Attributes<'a>, AllocError>
         requires resolved { IsResolved (the_schema names.now) }
-        requires rows { AreRowsOf whole_types (all_data_types (the_schema names.now))
+        requires rows { AreNumberRowsOf whole_types (all_data_types (the_schema names.now))
             (the_schema names.now).declarations (graph_of data_types.now.rows.items) }
         requires lines { HaveLines (the_schema names.now) (graph_of lines.now) }
         requires each { length lines.now ≡ length names.now.schema.now.declarations.items }
@@ -108,7 +111,7 @@ impl<'a> Attributes<'a> {
         gathered(alloc, keys, &sources)
     }
 
-    /// What declares the attributes of this name, and what redeclares them; nothing where there is
+    /// Returns the declarations and redeclarations of attributes called `name`; empty if there are
     /// none.
     pub fn find(&self, name: Word<'_>) -> &[AttributeDeclaration]
         ensures { result.now ≡ found self.now name.entry }

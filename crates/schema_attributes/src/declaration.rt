@@ -1,12 +1,12 @@
-//! A declaration of an attribute.
+//! A declaration or redeclaration of an attribute.
 
-/// What declares an attribute, or redeclares it.
+/// A declaration or redeclaration of an attribute.
 #[derive(Clone, Copy, Debug, PartialEq, Eq)]
 pub struct AttributeDeclaration {
     /// The number of the entity that declares the attribute first.
     pub entity: u32,
-    /// The number of the data type that it gets here.
+    /// The number of the data type in this declaration.
     pub data_type: u32,
-    /// Where it gets its value here, the number of this derived attribute.
+    /// The number of the derived attribute, if this declaration derives the value.
     pub derivation: Option<u32>,
 }

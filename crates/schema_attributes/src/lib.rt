@@ -1,10 +1,10 @@
-//! The attributes that the entities of a schema declare, by name, with what redeclares them
+//! The declarations and redeclarations of the attributes of a schema's entities, by name
 //! (ISO 10303-11, 9.2.1 and 9.2.3.4).
 #![tactic(auto)]
 
+mod attribute_collection;
 pub mod attributes;
-mod counting;
+mod counts;
 pub mod declaration;
-mod gathering;
-pub mod redeclaring;
+pub mod redeclarations;
 mod row;

@@ -1,20 +1,20 @@
-//! What is declared of the attributes of one name.
+//! The declarations of the attributes of one name.
 
 ghost use Rattle.std.specs.Prelude.{◌≡◌, ◌++◌, [], ◌∷◌, IfOk, OnOk};
-ghost use Rattle.schema_attributes.specs.Declarations.{items_of};
+ghost use Rattle.schema_attributes.specs.steps.Declarations.{items_of};
 
 use crate::declaration::AttributeDeclaration;
 use std::alloc::{AllocError, Global};
 use std::slice;
 
-/// The declarations of a name: mostly one, which takes no memory of its own.
+/// The declarations of one name. Most names have one, which needs no allocation.
 #[derive(Drop)]
 pub enum Row {
     One(AttributeDeclaration),
     Several(Box<Vec<AttributeDeclaration>>),
 }
 
-/// The row of two.
+/// Returns a row of two declarations.
 fn two(
     alloc: Global,
     first: AttributeDeclaration,
@@ -30,7 +30,7 @@ fn two(
 }
 
 impl Row {
-    /// Its declarations.
+    /// Returns the declarations.
     pub fn as_slice(&self) -> &[AttributeDeclaration]
         ensures { result.now ≡ items_of self.now }
     {
@@ -40,7 +40,7 @@ impl Row {
         }
     }
 
-    /// Adds one.
+    /// Adds a declaration.
     pub fn push(
         &mut self,
         alloc: Global,

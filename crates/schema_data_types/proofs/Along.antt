@@ -2,11 +2,11 @@
 use Rattle.std.specs.Prelude.{◌≡◌, ℕ, ◌+◌, ◌<◌, Bool, true, false, List, [], ◌∷◌, ◌++◌, Some, ◌⊎◌, map, length, take, slice_get, get_or, eqb}
 use Rattle.std.proofs.Common.{refl, inl, inr, ap, sym, subst, ◌∙◌, arith, set}
 use Rattle.std.proofs.lemmas.Bool.Decides.{nat_tests}
-use Rattle.digraph.specs.Graphs.{Graph, has, Step}
-use Rattle.digraph.specs.Orders.{Follows, IsTopologicalOrder}
-use Rattle.digraph.proofs.Found.{has-more, taken}
-use Rattle.digraph.proofs.Searching.{either}
-use Rattle.digraph.proofs.Gathered.{follows-at, set-here, set-elsewhere}
+use Rattle.graphs.specs.Graphs.{Graph, has, Step}
+use Rattle.graphs.specs.Orders.{Follows, IsTopologicalOrder}
+use Rattle.graphs.proofs.Found.{has-more, taken}
+use Rattle.graphs.proofs.Searching.{either}
+use Rattle.graphs.proofs.Gathered.{follows-at, set-here, set-elsewhere}
 use Rattle.express_syntax.specs.Schemas.{Schema, Declaration, type, entity, skipped, TypeDeclaration, Underlying, enumeration, select, data_type, DataType, named}
 use Rattle.schema_semantics.specs.Names.{Name, Among, IsTypeAt, declared_name}
 use Rattle.schema_semantics.specs.Faults.{IsResolved}
@@ -17,11 +17,11 @@ use Rattle.schema_names.proofs.Numbers.{stands-at, what-stands}
 use Rattle.schema_names.proofs.Edges.{number-within}
 use Rattle.schema_names.proofs.Items.{front-at, mapped-at}
 use Rattle.schema_data_types.specs.declared.forms.Form.{Form}
-use Rattle.schema_data_types.specs.Numbered.{all_data_types, form_in, whole_types, whole_underlying}
+use Rattle.schema_data_types.specs.NumberedTypes.{all_data_types, form_in, whole_types, whole_underlying}
 use Rattle.schema_data_types.specs.declared.shapes.Shape.{Shape}
 use Rattle.schema_data_types.specs.declared.shapes.Shape.TheVariants.{Instances}
-use Rattle.schema_data_types.specs.Shaped.{IsShapeOf}
-use Rattle.schema_data_types.specs.Making.{shape_declared, shape_behind, shape_first, shape_seen, shape_in, IsDeclaredAt, AreDeclared}
+use Rattle.schema_data_types.specs.ShapeTables.{IsShapeOf}
+use Rattle.schema_data_types.specs.steps.Making.{shape_declared, shape_behind, shape_first, shape_seen, shape_in, IsDeclaredAt, AreDeclared}
 use Rattle.schema_data_types.proofs.Known.{known-behind, all-ordered}
 use Rattle.schema_data_types.proofs.Shown.{behind, form-shape}
 

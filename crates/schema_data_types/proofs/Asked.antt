@@ -7,8 +7,8 @@ use Rattle.schema_semantics.specs.Names.{Name, Among, listed, IsEntity, supertyp
 use Rattle.schema_semantics.specs.Faults.{Demand, an_entity, IsMet, IsResolved, demands, demands_of_declaration, demands_of_underlying, demands_of_data_type, demands_of_attribute, demands_of_supertype, demands_of_explicit, demands_of_derived, demands_of_inverse}
 use Rattle.schema_semantics.specs.Attributes.{collected}
 use Rattle.schema_semantics.proofs.Lists.{among-left, among-right, among-flat, every-at, every-of}
-use Rattle.schema_data_types.specs.Numbered.{whole_underlying}
-use Rattle.schema_data_types.specs.Shaped.{IsKnown}
+use Rattle.schema_data_types.specs.NumberedTypes.{whole_underlying}
+use Rattle.schema_data_types.specs.ShapeTables.{IsKnown}
 use Rattle.schema_data_types.specs.Laws.{IsKnownInverse, AreKnownOf, DataTypesAreKnown}
 
 every-mapped : {A B : Type 0} (P : B → Type 0) (f : A → B) (xs : List A) → ((x : A) → Among x xs → P (f x))

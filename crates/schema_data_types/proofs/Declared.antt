@@ -4,23 +4,23 @@ use Rattle.std.specs.List.{list_any}
 use Rattle.std.proofs.Common.{refl, inl, inr, ap, sym, subst, ◌∙◌, arith}
 use Rattle.std.proofs.lemmas.List.{length-map}
 use Rattle.std.proofs.lemmas.Bool.Decides.{nat_tests}
-use Rattle.digraph.specs.Graphs.{Graph, graph_of, has, next, Step, Reaches}
+use Rattle.graphs.specs.Graphs.{Graph, graph_of, has, next, Step, Reaches}
 use Rattle.express_syntax.specs.Schemas.{Schema, Declaration, type, entity, skipped, TypeDeclaration, Entity, Underlying, enumeration, select, data_type, DataType, integer, number, boolean, logical, real, string, binary, array, list, bag, set, named}
 use Rattle.schema_semantics.specs.Names.{Name, declaration_of, IsEntity, StandsFor}
 use Rattle.schema_semantics.specs.Shapes.{Atom, value, instance, an_item, IsSelect, IsOverSelect, IsSort, IsOf}
-use Rattle.schema_names.specs.Numbers.{HasNumber, IsAt, AreAt, AreRowsOf}
+use Rattle.schema_names.specs.Numbers.{HasNumber, IsAt, AreAt, AreNumberRowsOf}
 use Rattle.schema_names.specs.Edges.{IsGraphOf, parts_in}
 use Rattle.schema_names.proofs.Numbers.{stands-at, what-stands, each-number, one-name}
 use Rattle.schema_names.proofs.Edges.{made-of-forth, made-of-back, number-within}
 use Rattle.schema_names.proofs.Items.{front-at, row-at}
-use Rattle.schema_data_types.specs.Numbered.{whole_underlying, whole_types, all_data_types}
-use Rattle.schema_data_types.specs.declared.giving.Parts.{Parts}
-use Rattle.schema_data_types.specs.Gathering.{Gathers, IsGathered}
-use Rattle.schema_data_types.specs.declared.giving.Wanted.TheVariants.{Giving, Selects}
-use Rattle.schema_data_types.specs.Giving.{is_leaf, gives_by, some_gives, gives_at, own_row}
-use Rattle.schema_data_types.specs.Values.{AreParts}
-use Rattle.schema_data_types.specs.Leaves.{IsLeaf, LeafGives, Gives, OneGives}
-use Rattle.schema_data_types.specs.Selects.{is_of_items, is_select, is_some_select, is_select_at}
+use Rattle.schema_data_types.specs.NumberedTypes.{whole_underlying, whole_types, all_data_types}
+use Rattle.schema_data_types.specs.declared.value_givers.Parts.{Parts}
+use Rattle.schema_data_types.specs.steps.Gathering.{Gathers, IsGathered}
+use Rattle.schema_data_types.specs.declared.value_givers.Wanted.TheVariants.{Giving, Selects}
+use Rattle.schema_data_types.specs.steps.Giving.{is_leaf, gives_by, some_gives, gives_at, own_row}
+use Rattle.schema_data_types.specs.steps.Values.{AreParts}
+use Rattle.schema_data_types.specs.steps.Leaves.{IsLeaf, LeafGives, Gives, OneGives}
+use Rattle.schema_data_types.specs.steps.Selects.{is_of_items, is_select, is_some_select, is_select_at}
 use Rattle.schema_data_types.proofs.OwnRows.{one-has, has-one}
 use Rattle.schema_data_types.proofs.Leading.{Way, Tells, made-over, names-made, of-forth, of-back, stands-one, no-select, no-enumeration, not-both}
 
@@ -68,7 +68,7 @@ module _ (s : Schema) where
   entity-here n i e k at = (e, stands-at s n i k ∙ at)
 
   -- the number of the data type behind the `=` of a defined type
-  pub underlying-at : (rows : List (List ℕ)) → AreRowsOf whole_types (all_data_types s) s.declarations rows → (n : Name)
+  pub underlying-at : (rows : List (List ℕ)) → AreNumberRowsOf whole_types (all_data_types s) s.declarations rows → (n : Name)
       (i : ℕ) (k : DataType) → HasNumber s n i → StandsFor s n (data_type k) → (m : ℕ)
       × (slice_get (next rows i) 0 ≡ Some m) × (slice_get (all_data_types s) m ≡ Some k)
   underlying-at rows h n i k has (t, at, u) =

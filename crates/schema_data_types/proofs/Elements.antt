@@ -3,7 +3,7 @@ use Rattle.std.specs.Prelude.{◌≡◌, ℕ, zero, suc, List, [], ◌∷◌, �
 use Rattle.std.proofs.Common.{refl, subst}
 use Rattle.express_syntax.specs.Schemas.{Schema, Declaration, DataType, integer, number, boolean, logical, real, string, binary, named, array, list, bag, set}
 use Rattle.schema_names.proofs.Items.{stays}
-use Rattle.schema_data_types.specs.Numbered.{within, whole_types, all_data_types}
+use Rattle.schema_data_types.specs.NumberedTypes.{within, whole_types, all_data_types}
 
 abbrev pub element : DataType → Option DataType
 element (array b o u k) = Some k

@@ -5,12 +5,12 @@ use Rattle.std.proofs.Common.{refl, inl, inr, ap, sym, subst, ◌∙◌}
 use Rattle.std.proofs.lemmas.Slice.Eq.{bytes_eq-Decides}
 use Rattle.std.proofs.lemmas.List.{append-nil}
 use Rattle.std.proofs.lemmas.List.Folds.{list_any-append}
-use Rattle.digraph.specs.Graphs.{graph_of, next}
+use Rattle.graphs.specs.Graphs.{graph_of, next}
 use Rattle.express_syntax.specs.Schemas.{Schema, Declaration, type, entity, skipped, Underlying, enumeration, select, data_type, named}
 use Rattle.express_syntax.specs.declared.tree.Declaration.{Declaration as Declared}
 use Rattle.express_syntax.specs.Views.{declaration_of}
 use Rattle.schema_semantics.specs.Names.{Name, Among, StandsFor}
-use Rattle.schema_semantics.specs.Faults.{IsResolved, declared, items_of}
+use Rattle.schema_semantics.specs.Faults.{IsResolved, declared, enumerated_items}
 use Rattle.schema_semantics.specs.Shapes.{an_item, IsOverSelect}
 use Rattle.schema_semantics.specs.Sets.{IsItemOf}
 use Rattle.schema_semantics.proofs.Bools.{both-hold, is-false, or-left, or-right}
@@ -19,11 +19,11 @@ use Rattle.schema_semantics.proofs.Supertypes.{stands, found}
 use Rattle.schema_names.specs.Numbers.{HasNumber, IsAt}
 use Rattle.schema_names.proofs.Numbers.{stands-at, what-stands, each-number}
 use Rattle.schema_names.proofs.Rows.{take-more, map-joined, flat-joined}
-use Rattle.schema_data_types.specs.Values.{AreParts}
-use Rattle.schema_data_types.specs.declared.giving.Parts.{Parts}
+use Rattle.schema_data_types.specs.steps.Values.{AreParts}
+use Rattle.schema_data_types.specs.declared.value_givers.Parts.{Parts}
 use Rattle.schema_data_types.proofs.Declared.{some-one, one-of, type-here, giving-named, giving-back, enumeration-told}
 use Rattle.schema_data_types.proofs.Leading.{Tells, by-names, names-made, named-not-over}
-use Rattle.schema_data_types.specs.Enumerated.{includes, items_in, all_items, some_items, has_item_at, has_item_within}
+use Rattle.schema_data_types.specs.steps.Enumerated.{includes, items_in, all_items, some_items, has_item_at, has_item_within}
 
 includes-forth : (ns : List Name) (n : Name) → includes ns n ≡ true → Among n ns
 includes-forth [] n h = absurd (cc)
@@ -39,7 +39,7 @@ includes-back [] n h = elim h [ ]
 includes-back (m ∷ ns) n (inl e) = or-left (bytes_eq m n) (includes ns n) ((bytes_eq-Decides m n).1 e)
 includes-back (m ∷ ns) n (inr h) = or-right (bytes_eq m n) (includes ns n) (includes-back ns n h)
 
-of-items : (u : Underlying) (n : Name) → Among n (items_of u) → (items : List Name) × (u ≡ enumeration items)
+of-items : (u : Underlying) (n : Name) → Among n (enumerated_items u) → (items : List Name) × (u ≡ enumeration items)
     × Among n items
 of-items (enumeration items) n m = (items, refl, m)
 of-items (select items) n m = elim m [ ]
@@ -106,7 +106,7 @@ module _ (s : Schema) where
   listed-back : (t n : Name) → IsItemOf s t n → Among n (all_items s.declarations)
   listed-back t n (e, items, way, (d, at, u), m) =
       among-flat items_in (type d) n s.declarations (found s.declarations e (type d) at).0
-      (subst (λ x. Among n (items_of x)) (sym u) m)
+      (subst (λ x. Among n (enumerated_items x)) (sym u) m)
 
   pub all-told : IsResolved s → (n : Name) → (includes (all_items s.declarations) n ≡ true)
       ↔ ((t : Name) × IsItemOf s t n)
@@ -147,7 +147,7 @@ module _ (s : Schema) where
       → Among n items → has_item_at s n i ≡ true
   at-back n e i items k (t, at, u) m =
       ap (λ o. includes (some_items o) n) (sym (stands-at s e i k) ∙ at)
-      ∙ includes-back (items_of t.underlying) n (subst (λ x. Among n (items_of x)) (sym u) m)
+      ∙ includes-back (enumerated_items t.underlying) n (subst (λ x. Among n (enumerated_items x)) (sym u) m)
 
   module _ (parts : Parts) (are : AreParts s parts) (t n : Name) (i : ℕ) (k : HasNumber s t i) where
     within-forth : (IsOverSelect s (named t) → ⊥) → has_item_within s (graph_of parts.giving.items) n i ≡ true

@@ -8,17 +8,17 @@ use Rattle.std.proofs.lemmas.Option.{get_or_from_slice_get}
 use Rattle.express_syntax.specs.Schemas.{Schema, Declaration, type, entity, skipped, DataType, integer, number, boolean, logical, real, string, binary, named, array, list, bag, set}
 use Rattle.schema_semantics.specs.Names.{Name, declaration_of}
 use Rattle.schema_semantics.specs.Faults.{IsMet, IsResolved, a_type}
-use Rattle.schema_semantics.specs.Shapes.{Shape, of_numbers, of_logicals, of_strings, of_binaries, of_arrays, of_lists, of_collections, IsShapeAt, HasShape, KeepsShapes, AreAlike}
+use Rattle.schema_semantics.specs.Shapes.{TypeShape, of_numbers, of_logicals, of_strings, of_binaries, of_arrays, of_lists, of_collections, IsShapeAt, HasShape, KeepsShapes, AreAlikeTypes}
 use Rattle.schema_semantics.proofs.Bools.{both-hold, or-left, or-right}
 use Rattle.schema_names.proofs.Edges.{within}
-use Rattle.schema_data_types.specs.Numbered.{all_data_types}
+use Rattle.schema_data_types.specs.NumberedTypes.{all_data_types}
 use Rattle.schema_data_types.specs.declared.shapes.Shape.{Shape as NumberedShape}
 use Rattle.schema_data_types.specs.declared.shapes.Shape.TheVariants.{Numbers}
-use Rattle.schema_data_types.specs.Alike.{AreAlikeAt}
-use Rattle.schema_data_types.specs.Comparing.{kind, element, kind_at, onward, next, agree}
+use Rattle.schema_data_types.specs.steps.Alike.{AreAlikeAt}
+use Rattle.schema_data_types.specs.steps.Comparing.{kind, element, kind_at, onward, next, agree}
 use Rattle.schema_data_types.proofs.Walks.{first-kind, later-agree, stays, next-below, agree-laws}
 use Rattle.schema_data_types.proofs.Relations.{alike-agree}
-use Rattle.schema_data_types.specs.Shaped.{IsKnown, AreShapes}
+use Rattle.schema_data_types.specs.ShapeTables.{IsKnown, AreShapes}
 use Rattle.schema_data_types.proofs.Parts.{kind_of, part, kind-shown, part-shown, one, own-shape, part-known}
 
 -- p holds of a number below n
@@ -106,7 +106,7 @@ module _ (s : Schema) (r : IsResolved s) (shapes : List NumberedShape) (t : AreS
 
   -- what the table says of a data type at a number
   record TableAt (m : ℕ) (k : DataType) : Type 0 where
-    shape : Shape
+    shape : TypeShape
     has : HasShape s k shape
     kinds : kind_at shapes m ≡ kind_of shape
     parts : (e : DataType) → part shape ≡ Some e → slice_get (all_data_types s) (next shapes m) ≡ Some e
@@ -142,7 +142,7 @@ module _ (s : Schema) (r : IsResolved s) (shapes : List NumberedShape) (t : AreS
   test-kind : (k c : ℕ) → eqb k c ≡ true → k ≡ c
   test-kind k c h = grind (arith, nat_tests)
 
-  leaf-fits : (k : DataType) (f : Shape) (m n : ℕ) → ((g : Shape) → HasShape s k g → g ≡ f)
+  leaf-fits : (k : DataType) (f : TypeShape) (m n : ℕ) → ((g : TypeShape) → HasShape s k g → g ≡ f)
       → slice_get (all_data_types s) m ≡ Some k → IsKnown s k → n < length shapes → agreed m n ≡ true
       → eqb (kind_at shapes n) (kind_of f) ≡ true
   leaf-fits k f m n only at known lt h =
@@ -150,7 +150,7 @@ module _ (s : Schema) (r : IsResolved s) (shapes : List NumberedShape) (t : AreS
       let (kinds, on) = step m n (number-below m k at) lt h in
       kind-test (kind_at shapes n) (kind_of f) (sym kinds ∙ a.kinds ∙ ap kind_of (only a.shape a.has))
 
-  over-fits : (k e : DataType) (f : Shape) (m n : ℕ) → ((g : Shape) → HasShape s k g → g ≡ f) → part f ≡ Some e
+  over-fits : (k e : DataType) (f : TypeShape) (m n : ℕ) → ((g : TypeShape) → HasShape s k g → g ≡ f) → part f ≡ Some e
       → slice_get (all_data_types s) m ≡ Some k → IsKnown s k → n < length shapes → agreed m n ≡ true
       → ((i j : ℕ) → slice_get (all_data_types s) i ≡ Some e → j < length shapes → agreed i j ≡ true → fits e j ≡ true)
       → (eqb (kind_at shapes n) (kind_of f) && fits e (next shapes n)) ≡ true
@@ -202,12 +202,12 @@ module _ (s : Schema) (r : IsResolved s) (shapes : List NumberedShape) (t : AreS
 
   -- what a tree that fits has, by the number that it fits
   record Found (k : DataType) (n : ℕ) : Type 0 where
-    shape : Shape
+    shape : TypeShape
     has : HasShape s k shape
     kinds : kind_at shapes n ≡ kind_of shape
     parts : (e : DataType) → part shape ≡ Some e → fits e (next shapes n) ≡ true
 
-  leaf-found : (k : DataType) (f : Shape) (n : ℕ) → IsShapeAt s k f → part f ≡ None
+  leaf-found : (k : DataType) (f : TypeShape) (n : ℕ) → IsShapeAt s k f → part f ≡ None
       → eqb (kind_at shapes n) (kind_of f) ≡ true → Found k n
   leaf-found k f n h none e = record {
     shape = f;
@@ -216,7 +216,7 @@ module _ (s : Schema) (r : IsResolved s) (shapes : List NumberedShape) (t : AreS
     parts = λ d p. absurd (cc);
   }
 
-  over-found : (k d : DataType) (f : Shape) (n : ℕ) → IsShapeAt s k f → part f ≡ Some d
+  over-found : (k d : DataType) (f : TypeShape) (n : ℕ) → IsShapeAt s k f → part f ≡ Some d
       → (eqb (kind_at shapes n) (kind_of f) && fits d (next shapes n)) ≡ true → Found k n
   over-found k d f n h is e =
       let parted = both-hold (eqb (kind_at shapes n) (kind_of f)) (fits d (next shapes n)) e in
@@ -293,7 +293,7 @@ module _ (s : Schema) (r : IsResolved s) (shapes : List NumberedShape) (t : AreS
       )
 
   pub trees-alike : (m n : ℕ) (k l : DataType) → slice_get (all_data_types s) m ≡ Some k
-      → slice_get (all_data_types s) n ≡ Some l → IsKnown s k → IsKnown s l → AreAlikeAt shapes m n → AreAlike s k l
+      → slice_get (all_data_types s) n ≡ Some l → IsKnown s k → IsKnown s l → AreAlikeAt shapes m n → AreAlikeTypes s k l
   trees-alike m n k l mk nl known other h =
       let low = number-below m k mk in
       let laws = agree-laws shapes (length shapes) in

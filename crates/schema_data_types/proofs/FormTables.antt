@@ -3,12 +3,12 @@ use Rattle.std.specs.Prelude.{◌≡◌, ℕ, ◌+◌, ◌<◌, List, [], ◌∷
 use Rattle.std.proofs.Common.{refl, ap, sym, subst, ◌∙◌}
 use Rattle.std.proofs.lemmas.List.{append_assoc, append-nil, length-map}
 use Rattle.express_syntax.specs.Schemas.{Schema, Declaration, DataType}
-use Rattle.schema_names.specs.Numbers.{AreAt, AreRowsOf}
+use Rattle.schema_names.specs.Numbers.{AreAt, AreNumberRowsOf}
 use Rattle.schema_names.proofs.Rows.{map-joined, flat-joined, take-more}
 use Rattle.schema_names.proofs.Items.{stay-at, joined-at, stay-rows, one-more-row}
 use Rattle.schema_data_types.specs.declared.forms.Form.{Form}
-use Rattle.schema_data_types.specs.Numbered.{within, form_in, whole_types}
-use Rattle.schema_data_types.specs.Growing.{Adds}
+use Rattle.schema_data_types.specs.NumberedTypes.{within, form_in, whole_types}
+use Rattle.schema_data_types.specs.steps.Growing.{Adds}
 use Rattle.schema_data_types.proofs.Elements.{at-front}
 
 module _ (s : Schema) where
@@ -78,7 +78,7 @@ module _ (s : Schema) where
     abbrev pub AreDone : List A → List Form → List (Vec ℕ Z) → Type 0
     AreDone xs forms rows =
         (forms ≡ map (form_in s) (given (map seen xs)))
-        × AreRowsOf whole_types (given (map seen xs)) (map seen xs) (map (λ v. v.items) rows)
+        × AreNumberRowsOf whole_types (given (map seen xs)) (map seen xs) (map (λ v. v.items) rows)
 
     pub next-declaration : (xs : List A) (i : ℕ) (x : A) (old new : List Form) (rows after : List (Vec ℕ Z))
         (row : Vec ℕ Z) → i < length xs → x ≡ get_or xs i x → AreDone (take i xs) old rows
@@ -86,11 +86,11 @@ module _ (s : Schema) where
         → AreDone (take (i + 1) xs) new after
     next-declaration xs i x old new rows after row lt at (all, each) adds is =
         subst (λ ds. (new ≡ map (form_in s) (given ds))
-        × AreRowsOf whole_types (given ds) ds (map (λ v. v.items) after)) (sym next) (
+        × AreNumberRowsOf whole_types (given ds) ds (map (λ v. v.items) after)) (sym next) (
           adds.forms ∙ ap (λ fs. fs ++ map (form_in s) (flat_map within ks)) all
               ∙ sym (map-joined (form_in s) before (flat_map within ks)) ∙ ap (map (form_in s)) (sym more),
-          subst (λ xs. AreRowsOf whole_types xs (done ++ seen x ∷ []) (map (λ v. v.items) after)) (sym more)
-              (subst (AreRowsOf whole_types (before ++ flat_map within ks) (done ++ seen x ∷ [])) (sym rows-are)
+          subst (λ xs. AreNumberRowsOf whole_types xs (done ++ seen x ∷ []) (map (λ v. v.items) after)) (sym more)
+              (subst (AreNumberRowsOf whole_types (before ++ flat_map within ks) (done ++ seen x ∷ [])) (sym rows-are)
               (one-more-row whole_types (before ++ flat_map within ks) done (seen x) (map (λ v. v.items) rows) row.items
               (stay-rows whole_types before (flat_map within ks) done (map (λ v. v.items) rows) each)
               (adds.numbers before [] (sym all) refl))),

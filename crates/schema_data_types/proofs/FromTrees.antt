@@ -4,20 +4,20 @@ use Rattle.std.proofs.Common.{refl, ap, sym, subst, ◌∙◌, arith}
 use Rattle.express_syntax.specs.Schemas.{Schema, DataType, integer, number, boolean, logical, real, string, binary, named, array, list, bag, set}
 use Rattle.schema_semantics.specs.Names.{declaration_of}
 use Rattle.schema_semantics.specs.Faults.{IsResolved}
-use Rattle.schema_semantics.specs.Shapes.{Shape, of_numbers, of_logicals, of_strings, of_binaries, of_items, of_instances, of_arrays, of_lists, of_collections, AreOne, KeepsShapes, AreAlike}
+use Rattle.schema_semantics.specs.Shapes.{TypeShape, of_numbers, of_logicals, of_strings, of_binaries, of_items, of_instances, of_arrays, of_lists, of_collections, AreOne, KeepsShapes, AreAlikeTypes}
 use Rattle.schema_semantics.proofs.Bools.{both-hold}
-use Rattle.schema_data_types.specs.Numbered.{all_data_types}
+use Rattle.schema_data_types.specs.NumberedTypes.{all_data_types}
 use Rattle.schema_data_types.specs.declared.shapes.Shape.{Shape as NumberedShape}
 use Rattle.schema_data_types.specs.declared.shapes.Shape.TheVariants.{Numbers, Logicals, Strings, Binaries, Items, Instances, Arrays, Lists, Collections}
-use Rattle.schema_data_types.specs.Alike.{AreAlikeAt, AreOne as AreOneAt, KeepsShapes as KeepsShapesAt}
-use Rattle.schema_data_types.specs.Comparing.{kind, element}
-use Rattle.schema_data_types.specs.Shaped.{IsKnown, IsShown, AreShapes}
+use Rattle.schema_data_types.specs.steps.Alike.{AreAlikeAt, AreOne as AreOneAt, KeepsShapes as KeepsShapesAt}
+use Rattle.schema_data_types.specs.steps.Comparing.{kind, element}
+use Rattle.schema_data_types.specs.ShapeTables.{IsKnown, IsShown, AreShapes}
 use Rattle.schema_data_types.proofs.Parts.{kind_of, part, kind-shown, part-known}
 use Rattle.schema_data_types.proofs.Fitting.{is_known, known-met, met-known, both}
 use Rattle.schema_data_types.proofs.OneShape.{shape-one}
 
 -- shapes that are one are of one kind, with elements that R relates
-one-kind : (R : DataType → DataType → Bool) (f g : Shape) → AreOne R f g → kind_of f ≡ kind_of g
+one-kind : (R : DataType → DataType → Bool) (f g : TypeShape) → AreOne R f g → kind_of f ≡ kind_of g
 one-kind R of_numbers of_numbers h = refl
 one-kind R of_logicals of_logicals h = refl
 one-kind R of_strings of_strings h = refl
@@ -35,7 +35,7 @@ moved R a b d e h p q =
     let one : a ≡ d = cc in
     let two : b ≡ e = cc in subst (λ x. R x e ≡ true) one (subst (λ y. R a y ≡ true) two h)
 
-one-parts : (R : DataType → DataType → Bool) (f g : Shape) (d e : DataType) → AreOne R f g → part f ≡ Some d
+one-parts : (R : DataType → DataType → Bool) (f g : TypeShape) (d e : DataType) → AreOne R f g → part f ≡ Some d
     → part g ≡ Some e → R d e ≡ true
 one-parts R of_numbers of_numbers d e h p q = absurd (cc)
 one-parts R of_logicals of_logicals d e h p q = absurd (cc)
@@ -62,14 +62,14 @@ one-at Q (Collections a) (Collections b) k h = h a b refl refl
 one-at Q x y k h = absurd (omega arith)
 
 -- the data type at the number of the elements
-abbrev HasPart : List DataType → Shape → ℕ → Type 0
+abbrev HasPart : List DataType → TypeShape → ℕ → Type 0
 HasPart all f c = (d : DataType) × (part f ≡ Some d) × (slice_get all c ≡ Some d)
 
-part-moved : (all : List DataType) (f : Shape) (k : DataType) (a c : ℕ) → Some a ≡ Some c → slice_get all a ≡ Some k
+part-moved : (all : List DataType) (f : TypeShape) (k : DataType) (a c : ℕ) → Some a ≡ Some c → slice_get all a ≡ Some k
     → part f ≡ Some k → HasPart all f c
 part-moved all f k a c e at p = let same : a ≡ c = cc in (k, p, sym (ap (slice_get all) same) ∙ at)
 
-element-shown : (all : List DataType) (x : NumberedShape) (f : Shape) (c : ℕ) → IsShown all x f → element x ≡ Some c
+element-shown : (all : List DataType) (x : NumberedShape) (f : TypeShape) (c : ℕ) → IsShown all x f → element x ≡ Some c
     → HasPart all f c
 element-shown all Numbers f c h e = absurd (cc)
 element-shown all Logicals f c h e = absurd (cc)
@@ -185,7 +185,7 @@ module _ (s : Schema) (r : IsResolved s) (shapes : List NumberedShape) (t : AreS
         )
 
   pub numbers-alike : (m n : ℕ) (k l : DataType) → slice_get (all_data_types s) m ≡ Some k
-      → slice_get (all_data_types s) n ≡ Some l → IsKnown s k → IsKnown s l → AreAlike s k l → AreAlikeAt shapes m n
+      → slice_get (all_data_types s) n ≡ Some l → IsKnown s k → IsKnown s l → AreAlikeTypes s k l → AreAlikeAt shapes m n
   unfolding relates_at
   numbers-alike m n k l mk nl kk lk (R, h, keeps) = (
     relates_at R keeps,

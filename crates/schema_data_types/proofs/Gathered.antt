@@ -4,11 +4,11 @@ use Rattle.std.specs.List.{concat}
 use Rattle.std.proofs.Common.{refl, inl, inr, ap, sym, subst, ◌∙◌, arith}
 use Rattle.std.proofs.lemmas.Bool.Decides.{nat_tests}
 use Rattle.std.proofs.lemmas.List.Folds.{list_any-append}
-use Rattle.digraph.specs.Graphs.{Graph, has, next, Step, IsGraph, IsAcyclic, LeadsToCycle, Chain}
-use Rattle.digraph.specs.Orders.{IsOrder, IsTopologicalOrder, Follows, AreJoined}
-use Rattle.digraph.proofs.Found.{has-added}
-use Rattle.digraph.proofs.Searching.{either, left-holds, right-holds}
-use Rattle.schema_data_types.specs.Gathering.{Gathers, IsGathered}
+use Rattle.graphs.specs.Graphs.{Graph, has, next, Step, IsGraph, IsAcyclic, LeadsToCycle, Chain}
+use Rattle.graphs.specs.Orders.{IsOrder, IsTopologicalOrder, Follows, AreJoined}
+use Rattle.graphs.proofs.Found.{has-added}
+use Rattle.graphs.proofs.Searching.{either, left-holds, right-holds}
+use Rattle.schema_data_types.specs.steps.Gathering.{Gathers, IsGathered}
 
 module _ (g own t : Graph) (order : List ℕ) (o : IsOrder g order) (joins : AreJoined g order own t) (graph : IsGraph g)
     (all : (a : ℕ) → a < length g → has order a ≡ true) where

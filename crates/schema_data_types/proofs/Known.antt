@@ -1,8 +1,8 @@
 -- In a resolved schema what stands behind a name is known, and no defined type is made of itself.
 use Rattle.std.specs.Prelude.{◌≡◌, ℕ, ◌<◌, Bool, true, false, List, [], ◌∷◌, length}
 use Rattle.std.proofs.Common.{refl, inl, inr, sym, subst}
-use Rattle.digraph.specs.Graphs.{Graph, has, Step, Chain, Leads, IsCyclic, LeadsToCycle}
-use Rattle.digraph.specs.Orders.{IsTopologicalOrder}
+use Rattle.graphs.specs.Graphs.{Graph, has, Step, Chain, Leads, IsCyclic, LeadsToCycle}
+use Rattle.graphs.specs.Orders.{IsTopologicalOrder}
 use Rattle.express_syntax.specs.Schemas.{Schema, type, data_type, DataType, named}
 use Rattle.schema_semantics.specs.Names.{Name, Among, StandsFor, Renames, IsMadeOf, IsOrLeads}
 use Rattle.schema_semantics.specs.Faults.{Demand, IsMet, IsResolved, demands, demands_of_declaration, demands_of_underlying, demands_of_data_type}
@@ -11,7 +11,7 @@ use Rattle.schema_semantics.proofs.Supertypes.{found}
 use Rattle.schema_names.specs.Edges.{IsGraphOf, parts_in}
 use Rattle.schema_names.proofs.Numbers.{one-name}
 use Rattle.schema_names.proofs.Edges.{made-of-forth}
-use Rattle.schema_data_types.specs.Shaped.{IsKnown}
+use Rattle.schema_data_types.specs.ShapeTables.{IsKnown}
 
 module _ (s : Schema) (r : IsResolved s) where
   pub known-behind : (n : Name) (k : DataType) → StandsFor s n (data_type k) → IsKnown s k

@@ -1,13 +1,13 @@
 -- What defined types lead to: through names alone, and through SELECTs.
 use Rattle.std.specs.Prelude.{◌≡◌, Bool, true, false, List, [], ◌∷◌, ◌⊎◌, ◌↔◌, Some}
 use Rattle.std.proofs.Common.{refl, inl, inr, ap, sym, subst, ◌∙◌}
-use Rattle.digraph.specs.Graphs.{Chain, Leads}
+use Rattle.graphs.specs.Graphs.{Chain, Leads}
 use Rattle.express_syntax.specs.Schemas.{Schema, type, TypeDeclaration, Underlying, enumeration, select, data_type, DataType, integer, number, boolean, logical, real, string, binary, named, array, list, bag, set}
 use Rattle.schema_semantics.specs.Names.{Name, IsOrLeads, StandsFor, IsEntity, Renames, HasItem, IsMadeOf}
 use Rattle.schema_semantics.specs.Shapes.{Sort, Atom, value, instance, IsSort, IsEnumeration, IsSelect, IsOverSelect, IsOf}
 use Rattle.schema_semantics.proofs.Lists.{leads-kept, leads-on}
 use Rattle.schema_names.proofs.Edges.{first-name}
-use Rattle.schema_data_types.specs.Leaves.{IsLeaf, Gives}
+use Rattle.schema_data_types.specs.steps.Leaves.{IsLeaf, Gives}
 
 module _ (s : Schema) where
   pub stands-one : (a : Name) (u v : Underlying) → StandsFor s a u → StandsFor s a v → u ≡ v

@@ -3,14 +3,14 @@ use Rattle.std.specs.Prelude.{◌≡◌, ℕ, ◌<◌, ◌≤◌, Bool, true, fa
 use Rattle.std.proofs.Common.{refl, inl, inr, ap, sym, subst, ◌∙◌, arith}
 use Rattle.std.proofs.lemmas.Bool.Decides.{nat_tests}
 use Rattle.std.proofs.lemmas.Option.{slice_get_past}
-use Rattle.digraph.specs.Graphs.{Graph, has, next, StaysBelow}
-use Rattle.digraph.proofs.RowLists.{beyond}
-use Rattle.digraph.proofs.Searching.{either, left-holds}
+use Rattle.graphs.specs.Graphs.{Graph, has, next, StaysBelow}
+use Rattle.graphs.proofs.RowLists.{beyond}
+use Rattle.graphs.proofs.Searching.{either, left-holds}
 use Rattle.express_syntax.specs.Schemas.{Schema, Declaration}
-use Rattle.schema_data_types.specs.Selects.{is_some_select, is_select_at}
-use Rattle.schema_data_types.specs.declared.giving.Wanted.{Wanted}
-use Rattle.schema_data_types.specs.declared.giving.Wanted.TheVariants.{Giving, Selects}
-use Rattle.schema_data_types.specs.Giving.{one_if, some_gives, gives_at, own_row}
+use Rattle.schema_data_types.specs.steps.Selects.{is_some_select, is_select_at}
+use Rattle.schema_data_types.specs.declared.value_givers.Wanted.{Wanted}
+use Rattle.schema_data_types.specs.declared.value_givers.Wanted.TheVariants.{Giving, Selects}
+use Rattle.schema_data_types.specs.steps.Giving.{one_if, some_gives, gives_at, own_row}
 
 -- what a row of one number has
 pub one-has : (b : Bool) (i j : ℕ) → has (one_if b i) j ≡ true → (j ≡ i) × (b ≡ true)

@@ -4,8 +4,8 @@ use Rattle.std.proofs.lemmas.Bool.Decides.{nat_tests}
 use Rattle.std.proofs.lemmas.Option.{slice_get-get_or, get_or_from_slice_get}
 use Rattle.schema_data_types.specs.declared.shapes.Shape.{Shape}
 use Rattle.schema_data_types.specs.declared.shapes.Shape.TheVariants.{Numbers, Logicals, Strings, Binaries, Items, Instances, Arrays, Lists, Collections}
-use Rattle.schema_data_types.specs.Alike.{IsTable, AreOne, KeepsShapes, AreAlikeAt}
-use Rattle.schema_data_types.specs.Comparing.{kind, element, kind_at, onward, next, agree}
+use Rattle.schema_data_types.specs.steps.Alike.{IsTable, AreOne, KeepsShapes, AreAlikeAt}
+use Rattle.schema_data_types.specs.steps.Comparing.{kind, element, kind_at, onward, next, agree}
 use Rattle.schema_data_types.proofs.Walks.{first-kind, later-agree, step-agree, kinds-apart, next-below, stays}
 
 -- shapes that are one are of one kind, and lead to what R relates

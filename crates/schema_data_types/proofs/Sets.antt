@@ -8,9 +8,9 @@ use Rattle.schema_semantics.specs.Shapes.{Atom, value, instance, a_number, a_log
 use Rattle.schema_semantics.specs.Shapes as shapes
 use Rattle.schema_data_types.specs.declared.values.Atom.{Atom as Numbered}
 use Rattle.schema_data_types.specs.declared.values.Atom.TheVariants as atoms
-use Rattle.schema_data_types.specs.Numbered.{all_data_types, form_in}
-use Rattle.schema_data_types.specs.Values.{IsMeant, Holds, AddsAll}
-use Rattle.schema_data_types.specs.Leaves.{IsLeaf, LeafGives, leaf_atom}
+use Rattle.schema_data_types.specs.NumberedTypes.{all_data_types, form_in}
+use Rattle.schema_data_types.specs.steps.Values.{IsMeant, Holds, AddsAll}
+use Rattle.schema_data_types.specs.steps.Leaves.{IsLeaf, LeafGives, leaf_atom}
 use Rattle.schema_data_types.proofs.Elements.{element, element-behind}
 
 module _ (s : Schema) where

@@ -9,12 +9,12 @@ use Rattle.schema_names.specs.Numbers.{number_of}
 use Rattle.schema_names.proofs.Edges.{within}
 use Rattle.schema_data_types.specs.declared.forms.Form.{Form}
 use Rattle.schema_data_types.specs.declared.forms.Form.TheVariants.{Named}
-use Rattle.schema_data_types.specs.Numbered.{all_data_types, form_in}
+use Rattle.schema_data_types.specs.NumberedTypes.{all_data_types, form_in}
 use Rattle.schema_data_types.specs.declared.shapes.Shape.{Shape}
 use Rattle.schema_data_types.specs.declared.shapes.Shape.TheVariants.{Instances}
-use Rattle.schema_data_types.specs.Alike.{LeadsBelow}
-use Rattle.schema_data_types.specs.Shaped.{IsShapeOf, AreShapes}
-use Rattle.schema_data_types.specs.Making.{shape_declared, shape_by, shape_seen, AreDeclared}
+use Rattle.schema_data_types.specs.steps.Alike.{LeadsBelow}
+use Rattle.schema_data_types.specs.ShapeTables.{IsShapeOf, AreShapes}
+use Rattle.schema_data_types.specs.steps.Making.{shape_declared, shape_by, shape_seen, AreDeclared}
 use Rattle.schema_data_types.proofs.Elements.{element, element-behind}
 use Rattle.schema_data_types.proofs.Shown.{form-shape, shown-below}
 use Rattle.schema_names.proofs.Items.{mapped-at}

@@ -4,29 +4,29 @@ use Rattle.std.proofs.Common.{refl, inl, inr, ap, sym, subst, ◌∙◌, suc, ar
 use Rattle.express_syntax.specs.Schemas.{Schema, type, entity, DataType, integer, number, boolean, logical, real, string, binary, named, array, list, bag, set}
 use Rattle.schema_semantics.specs.Names.{Name, Renames}
 use Rattle.schema_semantics.specs.Faults.{IsMet, a_type}
-use Rattle.schema_semantics.specs.Shapes.{Shape, of_numbers, of_logicals, of_strings, of_binaries, of_arrays, of_lists, of_collections, IsShapeAt, HasShape}
+use Rattle.schema_semantics.specs.Shapes.{TypeShape, of_numbers, of_logicals, of_strings, of_binaries, of_arrays, of_lists, of_collections, IsShapeAt, HasShape}
 use Rattle.schema_names.specs.Numbers.{HasNumber}
 use Rattle.schema_names.proofs.Numbers.{each-number}
 use Rattle.schema_names.proofs.Edges.{within}
 use Rattle.schema_data_types.specs.declared.forms.Form.TheVariants.{Named}
-use Rattle.schema_data_types.specs.Numbered.{all_data_types, form_in}
+use Rattle.schema_data_types.specs.NumberedTypes.{all_data_types, form_in}
 use Rattle.schema_data_types.specs.declared.shapes.Shape.{Shape as NumberedShape}
 use Rattle.schema_data_types.specs.declared.shapes.Shape.TheVariants.{Numbers, Logicals, Strings, Binaries, Items, Instances, Arrays, Lists, Collections}
-use Rattle.schema_data_types.specs.Alike.{LeadsBelow}
-use Rattle.schema_data_types.specs.Shaped.{IsKnown, IsOver, IsShown, IsShapeOf}
-use Rattle.schema_data_types.specs.Making.{shape_by, IsDeclaredAt}
+use Rattle.schema_data_types.specs.steps.Alike.{LeadsBelow}
+use Rattle.schema_data_types.specs.ShapeTables.{IsKnown, IsOver, IsShown, IsShapeOf}
+use Rattle.schema_data_types.specs.steps.Making.{shape_by, IsDeclaredAt}
 use Rattle.schema_data_types.proofs.Elements.{element-behind}
 
 -- a data type that opens no further has its shape
-abbrev its : (s : Schema) (k : DataType) (f : Shape) → IsShapeAt s k f → HasShape s k f
+abbrev its : (s : Schema) (k : DataType) (f : TypeShape) → IsShapeAt s k f → HasShape s k f
 its s k f h = (k, inl refl, h)
 
 -- the data type behind a name has its shape
-pub behind : (s : Schema) (k l : DataType) (f : Shape) → Renames s k l → HasShape s l f → HasShape s k f
+pub behind : (s : Schema) (k l : DataType) (f : TypeShape) → Renames s k l → HasShape s l f → HasShape s k f
 behind s k l f step (x, inl e, h) = (x, inr ([], subst (Renames s k) e step), h)
 behind s k l f step (x, inr (ms, c), h) = (x, inr (l ∷ ms, (step, c)), h)
 
-pub over : (all : List DataType) (of : DataType → Shape) (m : ℕ) (e : DataType) → slice_get all (suc m) ≡ Some e
+pub over : (all : List DataType) (of : DataType → TypeShape) (m : ℕ) (e : DataType) → slice_get all (suc m) ≡ Some e
     → IsOver all of (m + 1) (of e)
 over all of m e at =
     let next : m + 1 ≡ suc m = omega arith in
@@ -74,7 +74,7 @@ module _ (s : Schema) (declared : List NumberedShape) where
       (of m j refl h m h)
 
 -- what a shown shape leads to is in the list
-pub shown-below : (all : List DataType) (x : NumberedShape) (f : Shape) → IsShown all x f → LeadsBelow (length all) x
+pub shown-below : (all : List DataType) (x : NumberedShape) (f : TypeShape) → IsShown all x f → LeadsBelow (length all) x
 shown-below all Numbers f h = tt
 shown-below all Logicals f h = tt
 shown-below all Strings f h = tt

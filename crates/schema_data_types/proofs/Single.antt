@@ -1,7 +1,7 @@
 -- One data type by its form, and what its values may be.
 use Rattle.std.specs.Prelude.{◌≡◌, ℕ, zero, suc, ◌<◌, true, false, List, [], ◌∷◌, map, Option, None, Some, length, get_or, slice_get, ◌↔◌}
 use Rattle.std.proofs.Common.{refl, inl, inr, ap, sym, subst, ◌∙◌, arith}
-use Rattle.digraph.specs.Graphs.{Chain}
+use Rattle.graphs.specs.Graphs.{Chain}
 use Rattle.express_syntax.specs.Schemas.{Schema, type, entity, Underlying, enumeration, select, DataType, integer, number, boolean, logical, real, string, binary, named, array, list, bag, set}
 use Rattle.schema_semantics.specs.Names.{Name, IsOrLeads, StandsFor, Renames, IsMadeOf}
 use Rattle.schema_semantics.specs.Shapes.{Atom, value, instance, IsSort, IsOf}
@@ -9,8 +9,8 @@ use Rattle.schema_names.specs.Numbers.{number_of, HasNumber}
 use Rattle.schema_names.proofs.Numbers.{each-number}
 use Rattle.schema_names.proofs.Edges.{is-name, first-name}
 use Rattle.schema_data_types.specs.declared.forms.Form.TheVariants as forms
-use Rattle.schema_data_types.specs.Numbered.{form_in}
-use Rattle.schema_data_types.specs.Leaves.{IsLeaf, LeafGives}
+use Rattle.schema_data_types.specs.NumberedTypes.{form_in}
+use Rattle.schema_data_types.specs.steps.Leaves.{IsLeaf, LeafGives}
 
 pub form-at : {A B : Type 0} (g : A → B) (xs : List A) (n : ℕ) (x : A) (y : B) → slice_get xs n ≡ Some x
     → y ≡ get_or (map g xs) n y → y ≡ g x

@@ -7,8 +7,8 @@ use Rattle.std.proofs.lemmas.Option.{slice_get-get_or}
 use Rattle.std.proofs.lemmas.Map.Steps.{length-le_from_distinct_below}
 use Rattle.schema_data_types.specs.declared.shapes.Shape.{Shape}
 use Rattle.schema_data_types.specs.declared.shapes.Shape.TheVariants.{Numbers, Arrays, Lists, Collections}
-use Rattle.schema_data_types.specs.Alike.{LeadsBelow, IsTable}
-use Rattle.schema_data_types.specs.Comparing.{element, kind_at, onward, next, agree}
+use Rattle.schema_data_types.specs.steps.Alike.{LeadsBelow, IsTable}
+use Rattle.schema_data_types.specs.steps.Comparing.{element, kind_at, onward, next, agree}
 use Rattle.schema_data_types.proofs.Classes.{IsFiner, one-apart, distinct-finer}
 
 agree-refl : (s : List Shape) (r k : ℕ) → agree s r k k ≡ true

@@ -1,14 +1,5 @@
-pub mod Alike
-pub mod Comparing
-pub mod Numbered
-pub mod Growing
-pub mod Values
-pub mod Leaves
-pub mod Selects
-pub mod Shaped
-pub mod Making
+pub mod NumberedTypes
+pub mod ShapeTables
 pub mod Laws
 pub mod Items
-pub mod Enumerated
-pub mod Giving
-pub mod Gathering
+pub mod steps

@@ -1,7 +1,7 @@
 //! The data types of a schema, numbered in the order of the text.
 
 ghost use Rattle.std.specs.Prelude.{◌≡◌, [], ◌∷◌, ◌++◌, ◌<◌, ◌^◌, length, map, IfOk, OnOk};
-ghost use Rattle.digraph.specs.Graphs.{graph_of};
+ghost use Rattle.graphs.specs.Graphs.{graph_of};
 ghost use Rattle.express_syntax.specs.Views.{
   data_type_of,
   explicit_of,
@@ -14,9 +14,9 @@ ghost use Rattle.express_syntax.specs.Views.{
 ghost use Rattle.express_syntax.specs.ExpressionViews.{capitals};
 ghost use Rattle.express_syntax.specs.Schemas.{named};
 ghost use Rattle.schema_semantics.specs.Attributes.{collected};
-ghost use Rattle.schema_names.specs.Numbers.{AreRowsOf};
+ghost use Rattle.schema_names.specs.Numbers.{AreNumberRowsOf};
 ghost use Rattle.schema_names.specs.Schemas.{the_schema};
-ghost use Rattle.schema_data_types.specs.Numbered.{
+ghost use Rattle.schema_data_types.specs.NumberedTypes.{
   within,
   form_in,
   whole_underlying,
@@ -27,7 +27,7 @@ ghost use Rattle.schema_data_types.specs.Numbered.{
   whole_types,
   all_data_types,
 };
-ghost use Rattle.schema_data_types.specs.Growing.{Adds};
+ghost use Rattle.schema_data_types.specs.steps.Growing.{Adds};
 
 use express_syntax::tree::{
     Collection, DataType, Declaration, Derived, Entity, Explicit, Inverse, Underlying,
@@ -36,10 +36,11 @@ use schema_names::names::Names;
 use std::alloc::{AllocError, Global};
 use step_literals::literal::Word;
 
-/// So many data types have numbers of 32 bits, and so has the one behind each.
+/// The most data types that a schema may have: they, and the data types after them, get 32-bit
+/// numbers.
 const MOST_DATA_TYPES: usize = 4_294_967_295;
 
-/// What a data type is, one level deep (ISO 10303-11, 8).
+/// The outermost level of a data type (ISO 10303-11, 8).
 #[derive(Clone, Copy, Debug, PartialEq, Eq)]
 pub enum Form {
     /// INTEGER, NUMBER or REAL.
@@ -48,27 +49,28 @@ pub enum Form {
     Logical,
     String,
     Binary,
-    /// A list; the data type of its elements has the next number.
+    /// A list. The data type of its elements has the next number.
     List,
-    /// An array; the data type of its elements has the next number.
+    /// An array. The data type of its elements has the next number.
     Array,
-    /// A set or a bag; the data type of its elements has the next number.
+    /// A set or a bag. The data type of its elements has the next number.
     Collection,
-    /// The type or entity of this number.
+    /// The type or entity with this number, or `None` if the name isn't declared.
     Named(Option<u32>),
 }
 
-/// The data types of a schema in the order of the text, each with those of its elements behind it.
+/// The data types of a schema in the order of the text, each followed by that of its elements, if
+/// any.
 #[derive(Drop)]
 pub struct DataTypes {
     pub forms: Vec<Form>,
-    /// By declaration, the numbers of the data types that it gives, without those of elements: the
-    /// one behind the `=` of a defined type; of an entity one for each declaration of explicit
-    /// attributes, then of derived ones, then of inverse ones.
+    /// By declaration, the numbers of its data types, without those of elements. For a defined
+    /// type, the data type after its `=`, if any. For an entity, one for each declaration of
+    /// explicit attributes, then of derived ones, then of inverse ones.
     pub rows: Vec<Vec<u32>>,
 }
 
-/// What a data type is, one level deep.
+/// Returns the outermost level of `data_type`.
 fn form_of<'a>(names: &Names<'a, '_>, data_type: &DataType<'a>) -> Form
     ensures { result ≡ form_in (the_schema names.now) (data_type_of data_type.now) }
 {
@@ -84,7 +86,7 @@ fn form_of<'a>(names: &Names<'a, '_>, data_type: &DataType<'a>) -> Form
     }
 }
 
-/// Adds the form of a data type, then those of its elements.
+/// Adds the form of `data_type`, then those of its elements.
 fn add_within<'a>(
     names: &Names<'a, '_>,
     forms: &mut Vec<Form>,
@@ -103,7 +105,7 @@ fn add_within<'a>(
     }
 }
 
-/// Adds the number of the data type that comes next.
+/// Adds the number that the next data type gets.
 fn add_number(forms: &[Form], row: &mut Vec<u32>) -> Result<(), AllocError>
     ensures { OnOk result (row.new.items ≡ row.old.items ++ length forms.now ∷ []) }
 {
@@ -114,7 +116,7 @@ fn add_number(forms: &[Form], row: &mut Vec<u32>) -> Result<(), AllocError>
     Ok(())
 }
 
-/// Adds a data type with those of its elements, and its number.
+/// Adds `data_type` with those of its elements, and its number.
 fn add_data_type<'a>(
     names: &Names<'a, '_>,
     forms: &mut Vec<Form>,
@@ -128,7 +130,7 @@ fn add_data_type<'a>(
     add_within(names, forms, data_type)
 }
 
-/// Adds those of an entity's explicit attributes.
+/// Adds the data types of an entity's explicit attributes.
 fn add_explicits<'a>(
     names: &Names<'a, '_>,
     forms: &mut Vec<Form>,
@@ -144,7 +146,7 @@ fn add_explicits<'a>(
     Ok(())
 }
 
-/// Adds those of an entity's derived attributes.
+/// Adds the data types of an entity's derived attributes.
 fn add_deriveds<'a>(
     names: &Names<'a, '_>,
     forms: &mut Vec<Form>,
@@ -160,7 +162,7 @@ fn add_deriveds<'a>(
     Ok(())
 }
 
-/// Adds the form of what a name stands for.
+/// Adds the form of a data type that is a name.
 fn add_named(names: &Names<'_, '_>, forms: &mut Vec<Form>, name: Word<'_>) -> Result<(), AllocError>
     ensures { OnOk result (forms.new.items ≡ forms.old.items
         ++ form_in (the_schema names.now) (named (capitals name.entry)) ∷ []) }
@@ -169,7 +171,7 @@ fn add_named(names: &Names<'_, '_>, forms: &mut Vec<Form>, name: Word<'_>) -> Re
     Ok(())
 }
 
-/// Adds the forms of the data type of an inverse attribute, an entity or an aggregate of it.
+/// Adds the forms of the data type of an inverse attribute: an entity, or an aggregate of it.
 fn add_collected<'a>(
     names: &Names<'a, '_>,
     forms: &mut Vec<Form>,
@@ -202,7 +204,7 @@ fn add_inverse<'a>(
     add_collected(names, forms, inverse)
 }
 
-/// Adds those of an entity's inverse attributes.
+/// Adds the data types of an entity's inverse attributes.
 fn add_inverses<'a>(
     names: &Names<'a, '_>,
     forms: &mut Vec<Form>,
@@ -218,7 +220,7 @@ fn add_inverses<'a>(
     Ok(())
 }
 
-/// Adds that of a defined type, where it stands for one.
+/// Adds the underlying data type of a defined type, unless it is an enumeration or a SELECT.
 fn add_underlying<'a>(
     names: &Names<'a, '_>,
     forms: &mut Vec<Form>,
@@ -234,7 +236,7 @@ fn add_underlying<'a>(
     }
 }
 
-/// Adds those of an entity.
+/// Adds the data types of an entity's attributes.
 fn add_entity<'a>(
     names: &Names<'a, '_>,
     forms: &mut Vec<Form>,
@@ -249,7 +251,7 @@ fn add_entity<'a>(
     add_inverses(names, forms, row, entity.inverse_attributes())
 }
 
-/// Adds those of a declaration.
+/// Adds the data types of a declaration.
 fn add_declaration<'a>(
     names: &Names<'a, '_>,
     forms: &mut Vec<Form>,
@@ -266,14 +268,16 @@ fn add_declaration<'a>(
     }
 }
 
-/// The data types of a schema, by number.
+/// Returns the data types of a schema, by number.
 ///
-/// Where there are 2^32 of them or more there is no memory for it.
+/// # Errors
+/// `AllocError` if memory runs out or there are 2^32 data types or more.
 pub fn data_types(alloc: Global, names: &Names<'_, '_>) -> Result<DataTypes, AllocError>
     ensures forms { IfOk result (λ t. t.forms.items
         ≡ map (form_in (the_schema names.now)) (all_data_types (the_schema names.now))) }
     ensures few { IfOk result (λ t. length t.forms.items < 2 ^ 32) }
-    ensures rows { IfOk result (λ t. AreRowsOf whole_types (all_data_types (the_schema names.now))
+    ensures rows { IfOk result (λ t. AreNumberRowsOf whole_types
+        (all_data_types (the_schema names.now))
         (the_schema names.now).declarations (graph_of t.rows.items)) }
 {
     let mut forms = Vec::new(alloc);

@@ -1,19 +1,19 @@
-//! Items by name.
+//! Enumeration items by name.
 
 ghost use Rattle.std.specs.Prelude.{◌≡◌, ◌<◌, ◌||◌, ◌↔◌, length, is_some, IfOk, OnOk, IsTrue};
 ghost use Rattle.std.specs.List.{list_any};
 ghost use Rattle.indexmap.specs.IndexMap.{get};
-ghost use Rattle.digraph.specs.Graphs.{graph_of};
+ghost use Rattle.graphs.specs.Graphs.{graph_of};
 ghost use Rattle.step_literals.specs.declared.literal.Word.{Word as WordRead};
 ghost use Rattle.express_syntax.specs.ExpressionViews.{capitals};
 ghost use Rattle.express_syntax.specs.Views.{names_of, underlying_of, declaration_of};
-ghost use Rattle.schema_semantics.specs.Faults.{IsResolved, items_of as of_underlying};
+ghost use Rattle.schema_semantics.specs.Faults.{IsResolved, enumerated_items as of_underlying};
 ghost use Rattle.schema_semantics.specs.Sets.{IsItemOf};
 ghost use Rattle.schema_names.specs.Words.{same_word};
 ghost use Rattle.schema_names.specs.Schemas.{the_schema};
-ghost use Rattle.schema_data_types.specs.Values.{AreTables};
+ghost use Rattle.schema_data_types.specs.steps.Values.{AreTables};
 ghost use Rattle.schema_data_types.specs.Items.{AreItems, has_item};
-ghost use Rattle.schema_data_types.specs.Enumerated.{
+ghost use Rattle.schema_data_types.specs.steps.Enumerated.{
   includes,
   items_in,
   has_item_at,
@@ -28,8 +28,7 @@ use std::alloc::{AllocError, Global};
 use std::hash::RandomState;
 use step_literals::literal::Word;
 
-/// Names that are known, hashed by keys that the author of a text doesn't know, so that nobody can
-/// choose names that are slow to find.
+/// A set of names. The hash keys are random, so no schema can be crafted to collide.
 type Known<'a> = IndexMap<Word<'a>, (), RandomState>;
 
 /// The names of the items of a schema's enumerations.
@@ -38,7 +37,7 @@ pub struct Items<'a> {
     items: Known<'a>,
 }
 
-/// What stands in an enumeration; nothing where it is none.
+/// Returns the items of an enumeration. Empty for other types.
 fn items_behind<'d, 'a>(underlying: &'d Underlying<'a>) -> &'d [Word<'a>]
     ensures { names_of result.now ≡ of_underlying (underlying_of underlying.now) }
 {
@@ -48,7 +47,7 @@ fn items_behind<'d, 'a>(underlying: &'d Underlying<'a>) -> &'d [Word<'a>]
     }
 }
 
-/// The items of an enumeration; none of what is no enumeration.
+/// Returns the items of a declared enumeration. Empty for other declarations.
 fn items_of<'d, 'a>(declaration: &'d Declaration<'a>) -> &'d [Word<'a>]
     ensures { names_of result.now ≡ items_in (declaration_of declaration.now) }
 {
@@ -67,7 +66,7 @@ fn add_name<'a>(known: &mut Known<'a>, name: Word<'a>) -> Result<(), AllocError>
     Ok(())
 }
 
-/// Adds some names.
+/// Adds `names`.
 fn add_names<'a>(known: &mut Known<'a>, names: &[Word<'a>]) -> Result<(), AllocError>
     ensures { OnOk result ((w : WordRead) → is_some (get same_word known.new w)
         ≡ (is_some (get same_word known.old w) || includes (names_of names.now) (capitals w))) }
@@ -79,7 +78,7 @@ fn add_names<'a>(known: &mut Known<'a>, names: &[Word<'a>]) -> Result<(), AllocE
 }
 
 impl<'a> Items<'a> {
-    /// The items of all enumerations of a schema whose names are resolved.
+    /// Returns the items of all enumerations of a schema whose names are resolved.
     pub fn of(
         alloc: Global,
         keys: RandomState,
@@ -103,14 +102,14 @@ impl<'a> Items<'a> {
     }
 }
 
-/// Whether a name is among some.
+/// Whether `name` is among `names`.
 fn includes(names: &[Word<'_>], name: Word<'_>) -> bool
     ensures { result ≡ includes (names_of names.now) (capitals name.entry) }
 {
     names.iter().any(|each| *each == name)
 }
 
-/// Whether an enumeration with an item of this name is declared at this number.
+/// Whether the declaration with this number is an enumeration with an item `name`.
 fn has_item_at(tables: &Tables<'_, '_, '_>, part: u32, name: Word<'_>) -> bool
     ensures { result ≡ has_item_at (the_schema tables.now.names.now) (capitals name.entry) part }
 {
@@ -120,7 +119,7 @@ fn has_item_at(tables: &Tables<'_, '_, '_>, part: u32, name: Word<'_>) -> bool
     }
 }
 
-/// Whether one of these defined types is an enumeration with an item of this name.
+/// Whether one of `parts` is an enumeration with an item `name`.
 fn any_has_item(tables: &Tables<'_, '_, '_>, parts: &[u32], name: Word<'_>) -> bool
     ensures { result ≡ list_any (has_item_at (the_schema tables.now.names.now)
         (capitals name.entry)) parts.now }
@@ -133,7 +132,7 @@ fn any_has_item(tables: &Tables<'_, '_, '_>, parts: &[u32], name: Word<'_>) -> b
     false
 }
 
-/// Whether a defined type, or one that it is made of, is an enumeration with an item of this name.
+/// Whether a defined type, or one that it is made of, is an enumeration with an item `name`.
 fn has_item_within(tables: &Tables<'_, '_, '_>, part: u32, name: Word<'_>) -> bool
     requires { part < length tables.now.parts.now.giving.items }
     ensures { result ≡ has_item_within (the_schema tables.now.names.now)
@@ -142,9 +141,10 @@ fn has_item_within(tables: &Tables<'_, '_, '_>, part: u32, name: Word<'_>) -> bo
     any_has_item(tables, &tables.parts.giving[part as usize], name)
 }
 
-/// Whether a defined type is an enumeration with an item of this name, under whatever names.
+/// Whether `defined` is an enumeration with an item `name`, directly or through the names of other
+/// defined types.
 ///
-/// It takes time for each item of the enumeration.
+/// Takes time proportional to the count of the enumeration's items.
 pub fn is_item_of(tables: &Tables<'_, '_, '_>, defined: Word<'_>, name: Word<'_>) -> bool
     requires tables { AreTables tables.now }
     ensures { IsTrue result

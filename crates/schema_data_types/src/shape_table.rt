@@ -1,14 +1,14 @@
-//! The shapes of the data types of a schema, with the names of defined types followed.
+//! The shapes of the data types of a schema, with the names of defined types resolved.
 ghost use Rattle.std.specs.Prelude.{◌≡◌, ◌+◌, ◌<◌, ◌^◌, length, map, slice_get, IfOk};
-ghost use Rattle.digraph.specs.Graphs.{graph_of};
+ghost use Rattle.graphs.specs.Graphs.{graph_of};
 ghost use Rattle.express_syntax.specs.Views.{declaration_of, underlying_of};
 ghost use Rattle.schema_semantics.specs.Faults.{IsResolved};
 ghost use Rattle.schema_names.specs.Edges.{IsGraphOf, parts_in};
-ghost use Rattle.schema_names.specs.Numbers.{AreRowsOf};
+ghost use Rattle.schema_names.specs.Numbers.{AreNumberRowsOf};
 ghost use Rattle.schema_names.specs.Schemas.{the_schema};
-ghost use Rattle.schema_data_types.specs.Numbered.{form_in, whole_types, all_data_types};
-ghost use Rattle.schema_data_types.specs.Shaped.{AreShapes};
-ghost use Rattle.schema_data_types.specs.Making.{
+ghost use Rattle.schema_data_types.specs.NumberedTypes.{form_in, whole_types, all_data_types};
+ghost use Rattle.schema_data_types.specs.ShapeTables.{AreShapes};
+ghost use Rattle.schema_data_types.specs.steps.Making.{
   AreDeclared,
   shape_declared,
   shape_behind,
@@ -20,12 +20,12 @@ ghost use Rattle.schema_data_types.specs.Making.{
 
 use crate::forms::{DataTypes, Form};
 use crate::shapes::Shape;
-use digraph::orders::order;
 use express_syntax::tree::{Declaration, Underlying};
+use graphs::orders::order;
 use schema_names::names::Names;
 use std::alloc::{AllocError, Global};
 
-/// The shape of what is declared at a number.
+/// Returns the shape of the declaration with this number.
 fn shape_of_declared(declared: &[Shape], number: u32) -> Shape
     ensures { result ≡ shape_declared declared.now number }
 {
@@ -35,8 +35,8 @@ fn shape_of_declared(declared: &[Shape], number: u32) -> Shape
     }
 }
 
-/// The shape of the data type of this form at this number; a name has the shape of what it stands
-/// for.
+/// Returns the shape of the data type `number`, whose form is `form`. A name has the shape of its
+/// declaration.
 fn shape_by(declared: &[Shape], number: usize, form: Form) -> Shape
     requires { number + 1 < 2 ^ 32 }
     ensures { result ≡ shape_by declared.now number form }
@@ -54,7 +54,7 @@ fn shape_by(declared: &[Shape], number: usize, form: Form) -> Shape
     }
 }
 
-/// The shape of the data type at a number.
+/// Returns the shape of the data type `number`.
 fn shape_at(forms: &[Form], declared: &[Shape], number: usize) -> Shape
     requires { length forms.now < 2 ^ 32 }
     ensures { result ≡ shape_seen declared.now number (slice_get forms.now number) }
@@ -65,7 +65,7 @@ fn shape_at(forms: &[Form], declared: &[Shape], number: usize) -> Shape
     }
 }
 
-/// The shape of the first data type of a row.
+/// Returns the shape of the first data type of `row`.
 fn shape_first(forms: &[Form], declared: &[Shape], row: &[u32]) -> Shape
     requires { length forms.now < 2 ^ 32 }
     ensures { result ≡ shape_first forms.now declared.now row.now }
@@ -76,7 +76,7 @@ fn shape_first(forms: &[Form], declared: &[Shape], row: &[u32]) -> Shape
     }
 }
 
-/// The shape of what stands behind the `=` of a defined type.
+/// Returns the shape of an underlying type, whose data types are in `row`.
 fn shape_behind(
     forms: &[Form],
     declared: &[Shape],
@@ -94,7 +94,7 @@ fn shape_behind(
     }
 }
 
-/// The shape of what a declaration stands for.
+/// Returns the shape of a declaration, whose data types are in `row`.
 fn shape_in(forms: &[Form], declared: &[Shape], row: &[u32], declaration: &Declaration<'_>) -> Shape
     requires { length forms.now < 2 ^ 32 }
     ensures { result
@@ -106,8 +106,8 @@ fn shape_in(forms: &[Form], declared: &[Shape], row: &[u32], declaration: &Decla
     }
 }
 
-/// The shapes of what names stand for, by declaration, along an order in which each defined type
-/// stands behind what it is made of.
+/// Returns the shapes of all declarations. They are computed in an order in which each defined type
+/// comes after those that it is made of.
 fn declared_shapes(
     alloc: Global,
     names: &Names<'_, '_>,
@@ -117,7 +117,7 @@ fn declared_shapes(
     requires resolved { IsResolved (the_schema names.now) }
     requires forms { data_types.now.forms.items ≡ map (form_in (the_schema names.now))
         (all_data_types (the_schema names.now)) }
-    requires rows { AreRowsOf whole_types (all_data_types (the_schema names.now))
+    requires rows { AreNumberRowsOf whole_types (all_data_types (the_schema names.now))
         (the_schema names.now).declarations (graph_of data_types.now.rows.items) }
     requires graph { IsGraphOf (the_schema names.now) parts_in (graph_of parts.now) }
     requires few { length data_types.now.forms.items < 2 ^ 32 }
@@ -139,11 +139,12 @@ fn declared_shapes(
     Ok(declared)
 }
 
-/// The shapes of the data types of a schema whose names are resolved, by number, over the graph of
-/// what its defined types are made of (ISO 10303-11, 8, 8.3.2 and 8.4.2).
+/// Returns the shapes of the data types of a schema whose names are resolved, by number
+/// (ISO 10303-11, 8, 8.3.2 and 8.4.2).
 ///
-/// A defined type has the shape of what stands behind its `=`. It takes time for each declaration,
-/// each edge of the graph and each data type once.
+/// A defined type has the shape of its underlying type. `parts` is the graph of what defined types
+/// are made of. Takes time proportional to the count of declarations, edges of the graph and data
+/// types.
 pub fn shapes(
     alloc: Global,
     names: &Names<'_, '_>,
@@ -153,7 +154,7 @@ pub fn shapes(
     requires resolved { IsResolved (the_schema names.now) }
     requires forms { data_types.now.forms.items ≡ map (form_in (the_schema names.now))
         (all_data_types (the_schema names.now)) }
-    requires rows { AreRowsOf whole_types (all_data_types (the_schema names.now))
+    requires rows { AreNumberRowsOf whole_types (all_data_types (the_schema names.now))
         (the_schema names.now).declarations (graph_of data_types.now.rows.items) }
     requires graph { IsGraphOf (the_schema names.now) parts_in (graph_of parts.now) }
     requires few { length data_types.now.forms.items < 2 ^ 32 }

@@ -1,10 +1,10 @@
-//! Shapes of data types, and which data types are alike.
+//! Shapes of data types, and the relation of data types that are alike.
 ghost use Rattle.std.specs.Prelude.{◌≡◌, ◌<◌, ◌↔◌, length, IsTrue};
-ghost use Rattle.schema_data_types.specs.Alike.{IsTable, AreAlikeAt};
-ghost use Rattle.schema_data_types.specs.Comparing.{Tells};
+ghost use Rattle.schema_data_types.specs.steps.Alike.{IsTable, AreAlikeAt};
+ghost use Rattle.schema_data_types.specs.steps.Comparing.{Tells};
 
-/// The shape of a data type, one level deep: one for numbers, one for logicals, one for SELECTs and
-/// entities, one for SET and BAG.
+/// The outermost level of a data type, names resolved. All numbers are one shape, and so are all
+/// logicals, all SELECTs and entities, and all SETs and BAGs.
 #[derive(Clone, Copy, Debug, PartialEq, Eq)]
 pub enum Shape {
     Numbers,
@@ -15,19 +15,19 @@ pub enum Shape {
     Instances,
     /// ARRAYs of elements of the data type with this number.
     Arrays(u32),
-    /// LISTs likewise.
+    /// LISTs of elements of the data type with this number.
     Lists(u32),
-    /// SETs and BAGs likewise.
+    /// SETs and BAGs of elements of the data type with this number.
     Collections(u32),
 }
 
-/// What two shapes tell of their data types.
+/// The result of comparing two shapes.
 enum Comparison {
-    /// They are of two kinds.
+    /// The shapes differ.
     Apart,
-    /// They are one shape, without elements.
+    /// The shapes are equal, without elements.
     Alike,
-    /// They are of one kind, with elements of the data types with these numbers.
+    /// The shapes are equal, with elements of the data types with these numbers.
     Elements(u32, u32),
 }
 
@@ -48,10 +48,10 @@ fn compared(first: Shape, second: Shape) -> Comparison
     }
 }
 
-/// Whether two data types are alike: whether they have one shape, with elements that are alike.
+/// Whether two data types are alike: they have equal shapes, and elements that are alike.
 ///
-/// It goes from both to their elements, and on to the elements of those, for at most one step for
-/// each data type of the table. Two that agree for so many steps agree for ever.
+/// Compares both, then their elements, and so on, for at most one step for each data type of the
+/// table. If two data types agree for that count of steps, they agree for any count.
 pub fn are_alike(shapes: &[Shape], first: u32, second: u32) -> bool
     requires table { IsTable shapes.now }
     requires first_within { first < length shapes.now }

@@ -1,4 +1,4 @@
-//! What the values of data types may be.
+//! The possible values of data types.
 
 ghost use Rattle.std.specs.Prelude.{
   ◌≡◌,
@@ -16,20 +16,20 @@ ghost use Rattle.std.specs.Prelude.{
   OnOk,
 };
 ghost use Rattle.std.specs.List.{cons_option};
-ghost use Rattle.digraph.specs.Graphs.{graph_of, has, next};
+ghost use Rattle.graphs.specs.Graphs.{graph_of, has, next};
 ghost use Rattle.express_syntax.specs.Schemas.{DataType as DataTypeTree, named};
 ghost use Rattle.express_syntax.specs.Views.{declaration_of, underlying_of};
 ghost use Rattle.schema_semantics.specs.Names.{Name, StandsFor};
 ghost use Rattle.schema_semantics.specs.Shapes.{IsOf, IsOverSelect};
 ghost use Rattle.schema_names.specs.Numbers.{number_of, HasNumber};
 ghost use Rattle.schema_names.specs.Schemas.{the_schema};
-ghost use Rattle.schema_data_types.specs.Numbered.{all_data_types};
-ghost use Rattle.schema_data_types.specs.Values.{AddsAll, AreTables};
-ghost use Rattle.schema_data_types.specs.Leaves.{leaf_atom, LeafGives, Gives, OneGives};
-ghost use Rattle.schema_data_types.specs.Selects.{is_select};
+ghost use Rattle.schema_data_types.specs.NumberedTypes.{all_data_types};
+ghost use Rattle.schema_data_types.specs.steps.Values.{AddsAll, AreTables};
+ghost use Rattle.schema_data_types.specs.steps.Leaves.{leaf_atom, LeafGives, Gives, OneGives};
+ghost use Rattle.schema_data_types.specs.steps.Selects.{is_select};
 
 use crate::forms::{DataTypes, Form};
-use crate::giving::Parts;
+use crate::value_givers::Parts;
 use express_syntax::tree::{Declaration, Underlying};
 use schema_names::names::Names;
 use std::alloc::AllocError;
@@ -45,27 +45,27 @@ pub enum Sort {
     Item,
 }
 
-/// What a value may be.
+/// A kind of possible values.
 #[derive(Clone, Copy, Debug, PartialEq, Eq)]
 pub enum Atom {
     /// A value of a sort, and whether it is of a SELECT.
     Value(Sort, bool),
     /// An aggregate of elements of the data type of this number, and whether it is of a SELECT.
     Aggregate(u32, bool),
-    /// An instance of the entity of this number, or of a subtype.
+    /// An instance of the entity with this number, or of a subtype.
     Instance(u32),
 }
 
-/// What is known of a schema's data types.
+/// The tables of a schema's data types.
 #[derive(Clone, Copy)]
 pub struct Tables<'a, 't, 'r> {
     pub names: &'r Names<'a, 't>,
     pub data_types: &'r DataTypes,
-    /// What types and entities lead to that gives values by itself.
+    /// By declaration, the declarations from which its values come.
     pub parts: &'r Parts,
 }
 
-/// What a data type without a name gives, by its form and its number.
+/// Returns the atom of an unnamed data type, from its form and its number. `None` for a name.
 fn leaf(form: Form, number: u32, is_of_select: bool) -> Option<Atom>
     requires { number + 1 < 2 ^ 32 }
     ensures { result ≡ leaf_atom form number is_of_select }
@@ -82,7 +82,7 @@ fn leaf(form: Form, number: u32, is_of_select: bool) -> Option<Atom>
     }
 }
 
-/// Adds an atom, where there is one.
+/// Adds `atom`, if any.
 fn add_some(atoms: &mut Vec<Atom>, atom: Option<Atom>) -> Result<(), AllocError>
     ensures { OnOk result (atoms.new.items ≡ atoms.old.items ++ cons_option atom []) }
 {
@@ -92,7 +92,7 @@ fn add_some(atoms: &mut Vec<Atom>, atom: Option<Atom>) -> Result<(), AllocError>
     Ok(())
 }
 
-/// Adds what a data type without a name gives.
+/// Adds the atom of an unnamed data type. Adds nothing for a name.
 fn add_leaf(
     tables: &Tables<'_, '_, '_>,
     number: u32,
@@ -110,7 +110,7 @@ fn add_leaf(
     add_some(atoms, leaf(form, number, is_of_select))
 }
 
-/// Whether a SELECT is declared.
+/// Whether `declaration` is a SELECT.
 pub(crate) fn is_select(declaration: &Declaration<'_>) -> bool
     ensures { result ≡ is_select (declaration_of declaration.now) }
 {
@@ -120,7 +120,8 @@ pub(crate) fn is_select(declaration: &Declaration<'_>) -> bool
     }
 }
 
-/// Whether a defined type is a SELECT, or stands for one under whatever names.
+/// Whether the type with this number is a SELECT, directly or through the names of other defined
+/// types.
 pub fn is_over_select(tables: &Tables<'_, '_, '_>, part: u32) -> bool
     requires tables { AreTables tables.now }
     requires named { (n : Name) × HasNumber (the_schema tables.now.names.now) n part }
@@ -130,7 +131,7 @@ pub fn is_over_select(tables: &Tables<'_, '_, '_>, part: u32) -> bool
     tables.parts.selects[part as usize].contains(&0)
 }
 
-/// The number of the data type behind the `=` of a defined type, where there is one.
+/// Returns the number of the data type after the `=` of a defined type, if any.
 fn underlying_number(data_types: &DataTypes, part: u32) -> Option<u32>
     ensures { result ≡ slice_get (next (graph_of data_types.now.rows.items) part) 0 }
 {
@@ -140,7 +141,7 @@ fn underlying_number(data_types: &DataTypes, part: u32) -> Option<u32>
     }
 }
 
-/// Adds what a defined type gives by itself.
+/// Adds the atoms that a defined type gives by itself.
 fn add_underlying<'a>(
     tables: &Tables<'a, '_, '_>,
     part: u32,
@@ -168,7 +169,7 @@ fn add_underlying<'a>(
     }
 }
 
-/// Adds what an entity or a defined type gives by itself.
+/// Adds the atoms that an entity or a defined type gives by itself.
 fn add_part(
     tables: &Tables<'_, '_, '_>,
     part: u32,
@@ -193,7 +194,7 @@ fn add_part(
     }
 }
 
-/// Adds what each of some entities and defined types gives by itself.
+/// Adds the atoms that each of the declarations in `row` gives by itself.
 fn add_parts(
     tables: &Tables<'_, '_, '_>,
     row: &[u32],
@@ -212,7 +213,7 @@ fn add_parts(
     Ok(())
 }
 
-/// Adds what the values of an entity or a defined type may be.
+/// Adds the atoms of an entity or a defined type.
 pub fn add_named(
     tables: &Tables<'_, '_, '_>,
     part: u32,
@@ -233,7 +234,7 @@ pub fn add_named(
     )
 }
 
-/// Adds what the values of what a name means may be; nothing where it means nothing.
+/// Adds the atoms of the declaration `meant`, if any.
 fn add_meant(
     tables: &Tables<'_, '_, '_>,
     meant: Option<u32>,
@@ -251,11 +252,11 @@ fn add_meant(
     }
 }
 
-/// Adds what the values of the data type of a number may be, SELECTs being replaced by their items
+/// Adds the atoms of the data type `number`, with SELECTs replaced by their items
 /// (ISO 10303-11, 8.4.2).
 ///
-/// It takes time for each type and entity that the data type's name leads to and that gives values
-/// by itself.
+/// Takes time proportional to the count of declarations that give values by themselves and to which
+/// the data type refers.
 pub fn add_values(
     tables: &Tables<'_, '_, '_>,
     number: u32,

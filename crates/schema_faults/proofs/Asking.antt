@@ -7,7 +7,7 @@ use Rattle.schema_semantics.specs.Faults.{IsMet, a_type, an_entity}
 use Rattle.schema_names.specs.Numbers.{number_of, HasNumber, IsAt}
 use Rattle.schema_names.proofs.Numbers.{what-stands, stands-at, each-number}
 use Rattle.schema_names.proofs.Edges.{within}
-use Rattle.schema_faults.specs.Checks.{IsFirstUnmet, is_entity}
+use Rattle.schema_faults.specs.steps.Checks.{IsFirstUnmet, is_entity}
 
 module _ (s : Schema) (n : Name) where
   -- it stands for something

@@ -5,8 +5,8 @@ use Rattle.express_syntax.specs.Profile.{Every}
 use Rattle.express_syntax.specs.Schemas.{Schema, Entity}
 use Rattle.schema_semantics.specs.Names.{Name}
 use Rattle.schema_semantics.specs.Faults.{Demand, IsMet, demands_of_supertype, demands_of_entity}
-use Rattle.schema_faults.specs.Checks.{IsFirstUnmet, Checks}
-use Rattle.schema_faults.specs.Clauses.{of_subtype_clause, of_explicit_clauses, of_derive_clause, of_inverse_clause}
+use Rattle.schema_faults.specs.steps.Checks.{IsFirstUnmet, Checks}
+use Rattle.schema_faults.specs.steps.Clauses.{of_subtype_clause, of_explicit_clauses, of_derive_clause, of_inverse_clause}
 use Rattle.schema_faults.proofs.Unmet.{unmet-left, unmet-right, met-joined, checks-on}
 
 module _ (s : Schema) (e : Entity) where

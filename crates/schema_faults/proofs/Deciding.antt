@@ -3,8 +3,8 @@ use Rattle.std.specs.Prelude.{◌≡◌, ℕ, Bool, true, false, ◌&&◌, ◌�
 use Rattle.std.specs.List.{list_any}
 use Rattle.std.proofs.Common.{refl, inl, inr, sym, subst, arith}
 use Rattle.std.proofs.lemmas.Bool.Decides.{nat_tests}
-use Rattle.digraph.specs.Graphs.{Graph, has, next}
-use Rattle.digraph.proofs.Searching.{either, left-holds}
+use Rattle.graphs.specs.Graphs.{Graph, has, next}
+use Rattle.graphs.proofs.Searching.{either, left-holds}
 use Rattle.express_syntax.specs.Profile.{Every}
 use Rattle.express_syntax.specs.Schemas.{Schema, entity, redeclared}
 use Rattle.schema_semantics.specs.Names.{Name, OneOf, IsSubtypeOf, IsEntity, IsBelow, IsKindOf, HasAttribute, HasExplicit}
@@ -13,13 +13,13 @@ use Rattle.schema_semantics.proofs.Lists.{first-step}
 use Rattle.schema_names.specs.Numbers.{number_of, HasNumber}
 use Rattle.schema_names.proofs.Numbers.{one-name, each-number}
 use Rattle.schema_names.proofs.Edges.{below-forth, below-back}
-use Rattle.schema_places.specs.declared.own.Meant.TheVariants.{All, Explicit}
-use Rattle.schema_places.specs.Above.{AreAbove}
-use Rattle.schema_faults.specs.Checks.{IsFirstUnmet}
-use Rattle.schema_places.specs.Owned.{has_meant, HasMeant}
-use Rattle.schema_faults.specs.Kinds.{is_kind, is_inherited_at, is_inherited, is_inverted_at, is_inverted}
-use Rattle.schema_places.specs.Above.{is_or_leads}
-use Rattle.schema_places.proofs.Having.{right-holds, has-none, has-forth, has-back}
+use Rattle.schema_explicit_attributes.specs.declared.own_attributes.Meant.TheVariants.{All, Explicit}
+use Rattle.schema_explicit_attributes.specs.Supertypes.{AreAbove}
+use Rattle.schema_faults.specs.steps.Checks.{IsFirstUnmet}
+use Rattle.schema_explicit_attributes.specs.steps.Owned.{has_meant, HasMeant}
+use Rattle.schema_faults.specs.steps.Kinds.{is_kind, is_inherited_at, is_inherited, is_inverted_at, is_inverted}
+use Rattle.schema_explicit_attributes.specs.Supertypes.{is_or_leads}
+use Rattle.schema_explicit_attributes.proofs.Having.{right-holds, has-none, has-forth, has-back}
 
 both : (p q : Bool) → (p && q) ≡ true → (p ≡ true) × (q ≡ true)
 both true q e = (refl, e)

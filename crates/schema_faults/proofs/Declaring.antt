@@ -17,10 +17,10 @@ use Rattle.schema_semantics.specs.Names.{Name, own_names, explicit_names, derive
 use Rattle.schema_semantics.specs.Faults.{Declared, in_scope, declared_from, declared}
 use Rattle.schema_names.proofs.Rows.{map-joined, take-more}
 use Rattle.schema_names.proofs.Clauses.{clause-listed}
-use Rattle.schema_faults.specs.Shown.{IsShown}
-use Rattle.schema_faults.specs.Repeated.{IsSeen, Sees, IsFirstRepeated}
-use Rattle.schema_faults.specs.Parts.{word_in, own_in, explicit_in, derived_in, inverse_in, declared_in}
-use Rattle.schema_faults.specs.declared.seen.Seen.{Seen}
+use Rattle.schema_faults.specs.steps.Shown.{IsShown}
+use Rattle.schema_faults.specs.steps.Repeated.{IsSeen, Sees, IsFirstRepeated}
+use Rattle.schema_faults.specs.steps.Parts.{word_in, own_in, explicit_in, derived_in, inverse_in, declared_in}
+use Rattle.schema_faults.specs.declared.declared_names.Seen.{Seen}
 
 -- one part, and then the one behind it
 pub sees-on : (a b c : Seen) (ys zs : List Declared) → Sees a b ys → Sees b c zs → Sees a c (ys ++ zs)

@@ -1,8 +1,8 @@
 -- Names that lead to themselves, by the vertices on a cycle.
 use Rattle.std.specs.Prelude.{◌≡◌, ℕ, ◌<◌, List, Option, None, Some, length, filter_map}
 use Rattle.std.proofs.Common.{sym, subst, ◌∙◌, arith}
-use Rattle.digraph.specs.Graphs.{Graph, Step, Reaches, IsGraph}
-use Rattle.digraph.specs.Closures.{IsFirstCyclic}
+use Rattle.graphs.specs.Graphs.{Graph, Step, Reaches, IsGraph}
+use Rattle.graphs.specs.Closures.{IsFirstCyclic}
 use Rattle.express_syntax.specs.Schemas.{Schema, Declaration}
 use Rattle.schema_semantics.specs.Names.{Name, Among, IsFirst, declared_name}
 use Rattle.schema_semantics.proofs.Lists.{first-step, last-step}

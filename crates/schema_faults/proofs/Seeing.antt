@@ -11,8 +11,8 @@ use Rattle.express_syntax.specs.ExpressionViews.{capitals}
 use Rattle.schema_semantics.specs.Names.{Among}
 use Rattle.schema_semantics.specs.Faults.{Declared, IsFirstAgain}
 use Rattle.schema_semantics.proofs.Lists.{none-behind}
-use Rattle.schema_faults.specs.Repeated.{IsSeen, IsFirstRepeated, same_entry, stands_for}
-use Rattle.schema_faults.specs.declared.seen.Seen.{Seen}
+use Rattle.schema_faults.specs.steps.Repeated.{IsSeen, IsFirstRepeated, same_entry, stands_for}
+use Rattle.schema_faults.specs.declared.declared_names.Seen.{Seen}
 
 both : (p q : Bool) → (p && q) ≡ true → (p ≡ true) × (q ≡ true)
 both true q e = (refl, e)
@@ -85,7 +85,7 @@ again-last {A} before (z ∷ zs) y none m =
     shift (inr (inl e)) = inl (inl e)
     shift (inr (inr k)) = inr k
 
--- .. and else there is none
+-- without a repeated name before, a new name repeats none
 none-last : {A : Type 0} (before xs : List A) (y : A) → ((x : A) → IsFirstAgain before xs x → ⊥)
     → (Among y before → ⊥) → (Among y xs → ⊥) → (x : A) → IsFirstAgain before (xs ++ y ∷ []) x → ⊥
 none-last before [] y none b m x (inl h) = b h.0

@@ -1,22 +1,22 @@
 -- Entities that are supertypes of themselves, and defined types that are made of themselves.
 use Rattle.std.specs.Prelude.{◌≡◌, ℕ, List, [], ◌∷◌, map, Option, None, Some, filter_map, Result, Ok, Err, IfOk}
 use Rattle.std.proofs.Common.{refl, inl, inr, ap, sym, subst, ◌∙◌}
-use Rattle.digraph.specs.Graphs.{Graph}
-use Rattle.digraph.specs.Closures.{IsFirstCyclic}
+use Rattle.graphs.specs.Graphs.{Graph}
+use Rattle.graphs.specs.Closures.{IsFirstCyclic}
 use Rattle.step_literals.specs.declared.literal.Word.{Word}
 use Rattle.express_syntax.specs.ExpressionViews.{capitals}
 use Rattle.express_syntax.specs.Schemas.{Schema, Declaration, type, entity, skipped, Entity, TypeDeclaration, DataType, named}
 use Rattle.express_syntax.specs.Views.{if_some}
 use Rattle.express_syntax.specs.declared.fault.NameFault.TheVariants.{SupertypeCycle, TypeCycle}
-use Rattle.schema_semantics.specs.Names.{Name, Among, IsFirst, entities_of, types_of, declared_name, IsMadeOf, IsSubtypeOf}
+use Rattle.schema_semantics.specs.Names.{Name, Among, IsFirst, entities_of, type_declarations_of, declared_name, IsMadeOf, IsSubtypeOf}
 use Rattle.schema_semantics.specs.Faults.{IsAboveItself, IsMadeOfItself}
 use Rattle.schema_semantics.proofs.Lists.{first-step, first-holds}
 use Rattle.schema_names.specs.Numbers.{HasNumber, IsAt}
 use Rattle.schema_names.specs.Edges.{IsGraphOf, supertypes_in, parts_in}
 use Rattle.schema_names.proofs.Numbers.{each-number}
 use Rattle.schema_names.proofs.Carried.{reached-are-supertypes, reached-are-parts}
-use Rattle.schema_faults.specs.Shown.{IsShown}
-use Rattle.schema_faults.specs.FirstNamed.{IsFirstNamed}
+use Rattle.schema_faults.specs.steps.Shown.{IsShown}
+use Rattle.schema_faults.specs.steps.FirstNamed.{IsFirstNamed}
 use Rattle.schema_faults.proofs.Earliest.{same-some}
 use Rattle.schema_faults.proofs.Loops.{AreTurning, none-turns, first-turns}
 
@@ -38,7 +38,7 @@ entities-named (type t ∷ ds) = entities-named ds
 entities-named (entity e ∷ ds) = ap (λ ns. e.name ∷ ns) (entities-named ds)
 entities-named (skipped p ∷ ds) = entities-named ds
 
-types-named : (ds : List Declaration) → filter_map type_name ds ≡ map (λ (t : TypeDeclaration). t.name) (types_of ds)
+types-named : (ds : List Declaration) → filter_map type_name ds ≡ map (λ (t : TypeDeclaration). t.name) (type_declarations_of ds)
 types-named [] = refl
 types-named (type t ∷ ds) = ap (λ ns. t.name ∷ ns) (types-named ds)
 types-named (entity e ∷ ds) = types-named ds
@@ -125,7 +125,7 @@ module _ (s : Schema) (g : Graph) (h : IsGraphOf s parts_in g) where
   no-own-part : IsFirstCyclic g None → IsShown s TypeCycle None
   no-own-part none n first =
       none-turns s parts_in g type_name (IsMadeOfItself s) h types-turn none n
-      (first-holds (IsMadeOfItself s) (map (λ (t : TypeDeclaration). t.name) (types_of s.declarations)) n first)
+      (first-holds (IsMadeOfItself s) (map (λ (t : TypeDeclaration). t.name) (type_declarations_of s.declarations)) n first)
 
   own-part : (i : ℕ) → IsFirstCyclic g (Some i) → (o : Option Word)
       → ((d : Declaration) → IsAt s i d → if_some capitals o ≡ declared_name d) → IsShown s TypeCycle o

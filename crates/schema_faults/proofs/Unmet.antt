@@ -8,7 +8,7 @@ use Rattle.express_syntax.specs.Schemas.{Schema}
 use Rattle.schema_semantics.specs.Names.{Name, IsFirst}
 use Rattle.schema_semantics.specs.Faults.{Demand, IsMet}
 use Rattle.schema_names.proofs.Rows.{take-more}
-use Rattle.schema_faults.specs.Checks.{IsFirstUnmet, Checks}
+use Rattle.schema_faults.specs.steps.Checks.{IsFirstUnmet, Checks}
 
 module _ (s : Schema) where
   abbrev pub Unmet : Demand → Type 0

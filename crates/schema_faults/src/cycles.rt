@@ -1,22 +1,22 @@
-//! Entities and defined types that lead to themselves.
+//! Entities that are their own supertypes, and defined types that are made of themselves.
 
 ghost use Rattle.std.specs.Prelude.{◌≡◌, length, IfOk};
-ghost use Rattle.digraph.specs.Graphs.{IsGraph, graph_of};
+ghost use Rattle.graphs.specs.Graphs.{IsGraph, graph_of};
 ghost use Rattle.express_syntax.specs.declared.fault.NameFault.TheVariants.{
   SupertypeCycle,
   TypeCycle,
 };
 ghost use Rattle.schema_names.specs.Schemas.{the_schema};
-ghost use Rattle.schema_faults.specs.Shown.{IsShown};
-ghost use Rattle.schema_faults.specs.FirstNamed.{IsFirstNamed};
+ghost use Rattle.schema_faults.specs.steps.Shown.{IsShown};
+ghost use Rattle.schema_faults.specs.steps.FirstNamed.{IsFirstNamed};
 
-use digraph::cycles::first_cyclic;
-use schema_names::graphs::{part_graph, supertype_graph};
+use graphs::cycles::first_cyclic;
+use schema_names::declaration_graphs::{part_graph, supertype_graph};
 use schema_names::names::Names;
 use std::alloc::{AllocError, Global};
 use step_literals::literal::Word;
 
-/// The name of the first declaration on a cycle of a graph.
+/// Returns the name of the first declaration on a cycle of the graph, if any.
 fn first_named<'a>(
     alloc: Global,
     names: &Names<'a, '_>,
@@ -32,12 +32,12 @@ fn first_named<'a>(
     }
 }
 
-/// The first entity, in the order of the text, that is a proper supertype of itself
+/// Returns the first entity, in the order of the text, that is a proper supertype of itself, if any
 /// (ISO 10303-11, 9.2.3).
 ///
-/// Where none is, it takes time for each declaration and each name behind SUBTYPE OF once. Else,
-/// beyond that, for a search from each entity that leads to a cycle, up to the first that lies on
-/// one.
+/// Without such an entity, the search takes time proportional to the count of declarations and of
+/// names in SUBTYPE OF. Otherwise, there is in addition one search from each entity that reaches a
+/// cycle, up to the first entity on a cycle.
 pub fn first_own_supertype<'a>(
     alloc: Global,
     names: &Names<'a, '_>,
@@ -48,12 +48,12 @@ pub fn first_own_supertype<'a>(
     first_named(alloc, names, &supertypes)
 }
 
-/// The first defined type, in the order of the text, that is made of itself
+/// Returns the first defined type, in the order of the text, that is made of itself, if any
 /// (ISO 10303-11, 8.3.2 and 8.4.2).
 ///
-/// Where none is, it takes time for each declaration and each name that a type is made of once.
-/// Else, beyond that, for a search from each type that leads to a cycle, up to the first that lies
-/// on one.
+/// Without such a type, the search takes time proportional to the count of declarations and of
+/// names of which types are made. Otherwise, there is in addition one search from each type that
+/// reaches a cycle, up to the first type on a cycle.
 pub fn first_own_part<'a>(
     alloc: Global,
     names: &Names<'a, '_>,

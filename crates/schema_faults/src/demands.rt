@@ -1,12 +1,15 @@
-//! All that a schema asks of its names.
+//! The requirements of a schema on its names.
+//!
+//! Each `check_` function fails with the first name that doesn't refer to what its context
+//! requires.
 
 ghost use Rattle.std.specs.Prelude.{◌≡◌};
-ghost use Rattle.digraph.specs.Graphs.{graph_of};
+ghost use Rattle.graphs.specs.Graphs.{graph_of};
 ghost use Rattle.express_syntax.specs.Views.{declaration_of as declaration_seen};
 ghost use Rattle.schema_semantics.specs.Faults.{demands_of_declaration, demands};
 ghost use Rattle.schema_names.specs.Schemas.{the_schema};
-ghost use Rattle.schema_faults.specs.Checks.{Checks};
-ghost use Rattle.schema_places.specs.Above.{AreAbove};
+ghost use Rattle.schema_faults.specs.steps.Checks.{Checks};
+ghost use Rattle.schema_explicit_attributes.specs.Supertypes.{AreAbove};
 
 use crate::entities::check_entity_declaration;
 use crate::types::check_underlying;
@@ -14,7 +17,7 @@ use express_syntax::tree::Declaration;
 use schema_names::names::Names;
 use step_literals::literal::Word;
 
-/// The names of a declaration.
+/// Checks the names in a declaration.
 fn check_declaration<'a>(
     names: &Names<'a, '_>,
     above: &[Vec<u32>],
@@ -31,11 +34,12 @@ fn check_declaration<'a>(
     }
 }
 
-/// Whether each name of a schema is what its place asks for (ISO 10303-11, 8, 9 and 10), over the
-/// rows of all that SUBTYPE OF leads to.
+/// Checks that each name of a schema refers to what its context requires
+/// (ISO 10303-11, 8, 9 and 10). `above` has the proper supertypes of each entity.
 ///
-/// The error is the first name in the text that isn't: one that has to be a type or an entity, an
-/// inherited attribute or an inverted one.
+/// # Errors
+/// The first name in the text that isn't what it has to be: the name of a type, of an entity, of an
+/// inherited attribute or of an inverted one.
 pub fn check_demands<'a>(names: &Names<'a, '_>, above: &[Vec<u32>]) -> Result<(), Word<'a>>
     requires { AreAbove (the_schema names.now) (graph_of above.now) }
     ensures { Checks (the_schema names.now) (demands (the_schema names.now)) result }

@@ -3,20 +3,20 @@
 ghost use Rattle.std.specs.Prelude.{IfOk};
 ghost use Rattle.express_syntax.specs.declared.fault.NameFault.TheVariants.{DuplicateName};
 ghost use Rattle.schema_names.specs.Schemas.{the_schema};
-ghost use Rattle.schema_faults.specs.Shown.{IsShown};
+ghost use Rattle.schema_faults.specs.steps.Shown.{IsShown};
 
+use crate::declared_names::Seen;
 use crate::parts::see_all;
-use crate::seen::Seen;
 use indexmap::IndexSet;
 use schema_names::names::Names;
 use std::alloc::{AllocError, Global};
 use std::hash::RandomState;
 use step_literals::literal::Word;
 
-/// The name of the first declaration, in the order of the text, whose name is declared already in
-/// its scope (ISO 10303-11, 10.1): of `a`, `b`, `b`, `a` it is `b`.
+/// Returns the first name, in the order of the text, that is declared already in its scope, if any
+/// (ISO 10303-11, 10.1): of `a`, `b`, `b`, `a` it is `b`.
 ///
-/// It takes time for each name that is declared once. Names are hashed by these keys.
+/// Names are hashed with `keys`. Takes time proportional to the count of declared names.
 pub fn first_duplicate<'a>(
     alloc: Global,
     keys: RandomState,

@@ -1,7 +1,10 @@
 //! The names in the attributes of entities (ISO 10303-11, 9.2).
+//!
+//! Each `check_` function fails with the first name that doesn't refer to what its context
+//! requires.
 
 ghost use Rattle.std.specs.Prelude.{flat_map, map};
-ghost use Rattle.digraph.specs.Graphs.{graph_of};
+ghost use Rattle.graphs.specs.Graphs.{graph_of};
 ghost use Rattle.express_syntax.specs.Views.{
   names_of,
   attribute_of,
@@ -16,9 +19,9 @@ ghost use Rattle.schema_semantics.specs.Faults.{
   demands_of_entity,
 };
 ghost use Rattle.schema_names.specs.Schemas.{the_schema};
-ghost use Rattle.schema_faults.specs.Checks.{Checks};
-ghost use Rattle.schema_places.specs.Above.{AreAbove};
-ghost use Rattle.schema_faults.specs.Clauses.{
+ghost use Rattle.schema_faults.specs.steps.Checks.{Checks};
+ghost use Rattle.schema_explicit_attributes.specs.Supertypes.{AreAbove};
+ghost use Rattle.schema_faults.specs.steps.Clauses.{
   of_subtype_clause,
   of_explicit_clauses,
   of_derive_clause,
@@ -33,7 +36,7 @@ use express_syntax::tree::{Attribute, Derived, Entity, Explicit};
 use schema_names::names::Names;
 use step_literals::literal::Word;
 
-/// A redeclared attribute, of an entity with these names behind SUBTYPE OF (ISO 10303-11, 9.2.3.4).
+/// Checks a redeclared attribute of an entity with these supertypes (ISO 10303-11, 9.2.3.4).
 fn check_attribute<'a>(
     names: &Names<'a, '_>,
     above: &[Vec<u32>],
@@ -72,7 +75,7 @@ fn check_attributes<'a>(
     Ok(())
 }
 
-/// Explicit attributes, and their data type (ISO 10303-11, 9.2.1.1).
+/// Checks explicit attributes and their data type (ISO 10303-11, 9.2.1.1).
 fn check_explicit<'a>(
     names: &Names<'a, '_>,
     above: &[Vec<u32>],
@@ -104,7 +107,7 @@ fn check_explicits<'a>(
     Ok(())
 }
 
-/// A derived attribute, and its data type (ISO 10303-11, 9.2.1.2).
+/// Checks a derived attribute and its data type (ISO 10303-11, 9.2.1.2).
 fn check_derived<'a>(
     names: &Names<'a, '_>,
     above: &[Vec<u32>],
@@ -135,14 +138,14 @@ fn check_deriveds<'a>(
     Ok(())
 }
 
-/// The names behind SUBTYPE OF (ISO 10303-11, 9.2.3).
+/// Checks the names in SUBTYPE OF (ISO 10303-11, 9.2.3).
 fn check_subtype_clause<'a>(names: &Names<'a, '_>, entity: &Entity<'a>) -> Result<(), Word<'a>>
     ensures { Checks (the_schema names.now) (of_subtype_clause (entity_of entity.now)) result }
 {
     check_entities(names, entity.supertypes())
 }
 
-/// The explicit attributes of an entity (ISO 10303-11, 9.2.1.1).
+/// Checks the explicit attributes of an entity (ISO 10303-11, 9.2.1.1).
 fn check_explicit_clauses<'a>(
     names: &Names<'a, '_>,
     above: &[Vec<u32>],
@@ -154,7 +157,7 @@ fn check_explicit_clauses<'a>(
     check_explicits(names, above, entity.supertypes(), &entity.explicits)
 }
 
-/// The derived attributes of an entity (ISO 10303-11, 9.2.1.2).
+/// Checks the derived attributes of an entity (ISO 10303-11, 9.2.1.2).
 fn check_derive_clause<'a>(
     names: &Names<'a, '_>,
     above: &[Vec<u32>],
@@ -171,7 +174,7 @@ fn check_derive_clause<'a>(
     )
 }
 
-/// The inverse attributes of an entity (ISO 10303-11, 9.2.1.3).
+/// Checks the inverse attributes of an entity (ISO 10303-11, 9.2.1.3).
 fn check_inverse_clause<'a>(
     names: &Names<'a, '_>,
     above: &[Vec<u32>],
@@ -183,7 +186,7 @@ fn check_inverse_clause<'a>(
     check_inverses(names, above, entity.inverse_attributes())
 }
 
-/// The names of an entity (ISO 10303-11, 9.2).
+/// Checks the names in an entity (ISO 10303-11, 9.2).
 pub(crate) fn check_entity_declaration<'a>(
     names: &Names<'a, '_>,
     above: &[Vec<u32>],

@@ -1,14 +1,17 @@
 //! The names in inverse attributes (ISO 10303-11, 9.2.1.3).
+//!
+//! Each `check_` function fails with the first name that doesn't refer to what its context
+//! requires.
 
 ghost use Rattle.std.specs.Prelude.{◌∷◌, [], flat_map, map};
-ghost use Rattle.digraph.specs.Graphs.{graph_of};
+ghost use Rattle.graphs.specs.Graphs.{graph_of};
 ghost use Rattle.express_syntax.specs.ExpressionViews.{capitals};
 ghost use Rattle.express_syntax.specs.Views.{inverse_of};
 ghost use Rattle.schema_semantics.specs.Faults.{inverted};
 ghost use Rattle.schema_names.specs.Schemas.{the_schema};
-ghost use Rattle.schema_faults.specs.Checks.{Checks};
-ghost use Rattle.schema_places.specs.Above.{AreAbove};
-ghost use Rattle.schema_faults.specs.Clauses.{demands_of_inverted, demands_of_own_inverse};
+ghost use Rattle.schema_faults.specs.steps.Checks.{Checks};
+ghost use Rattle.schema_explicit_attributes.specs.Supertypes.{AreAbove};
+ghost use Rattle.schema_faults.specs.steps.Clauses.{demands_of_inverted, demands_of_own_inverse};
 
 use crate::kinds::is_inverted;
 use crate::names::check_entity;
@@ -16,7 +19,8 @@ use express_syntax::tree::{Attribute, Inverse};
 use schema_names::names::Names;
 use step_literals::literal::Word;
 
-/// The attribute that an inverse inverts, asked of an entity (ISO 10303-11, 9.2.1.3).
+/// Checks that `entity` has the explicit attribute that an inverse attribute inverts
+/// (ISO 10303-11, 9.2.1.3).
 fn check_inverted<'a>(
     names: &Names<'a, '_>,
     above: &[Vec<u32>],
@@ -34,7 +38,7 @@ fn check_inverted<'a>(
     }
 }
 
-/// The entity before the name of the inverted attribute, if it is said, and that attribute
+/// Checks the entity that qualifies the name of the inverted attribute, if any, and that attribute
 /// (ISO 10303-11, 9.2.1.3).
 fn check_holder<'a>(
     names: &Names<'a, '_>,
@@ -51,7 +55,8 @@ fn check_holder<'a>(
     check_inverted(names, above, holder, inverse.inverted)
 }
 
-/// An inverse attribute; nothing is asked of a redeclared one (ISO 10303-11, 9.2.1.3).
+/// Checks an inverse attribute. There is no requirement on a redeclared one
+/// (ISO 10303-11, 9.2.1.3).
 fn check_inverse<'a>(
     names: &Names<'a, '_>,
     above: &[Vec<u32>],

@@ -1,20 +1,20 @@
-//! Who is a kind of whom, and which attributes are inherited (ISO 10303-11, 9.2.3).
+//! Subtypes, and inherited attributes (ISO 10303-11, 9.2.3).
 
 ghost use Rattle.std.specs.Prelude.{◌≡◌};
 ghost use Rattle.std.specs.List.{list_any};
-ghost use Rattle.digraph.specs.Graphs.{graph_of};
+ghost use Rattle.graphs.specs.Graphs.{graph_of};
 ghost use Rattle.express_syntax.specs.ExpressionViews.{capitals};
 ghost use Rattle.express_syntax.specs.Views.{names_of};
 ghost use Rattle.schema_names.specs.Schemas.{the_schema};
-ghost use Rattle.schema_faults.specs.Kinds.{is_kind, is_inherited, is_inverted};
+ghost use Rattle.schema_faults.specs.steps.Kinds.{is_kind, is_inherited, is_inverted};
 
-use crate::inherited::has;
+use crate::inherited_attributes::has;
+use schema_explicit_attributes::own_attributes::Meant;
+use schema_explicit_attributes::supertypes::is_or_leads;
 use schema_names::names::Names;
-use schema_places::above::is_or_leads;
-use schema_places::own::Meant;
 use step_literals::literal::Word;
 
-/// Whether a name is a kind of what has a number.
+/// Whether the entity `name` is `upper` or one of its subtypes.
 fn is_kind(names: &Names<'_, '_>, above: &[Vec<u32>], name: Word<'_>, upper: u32) -> bool
     ensures { result ≡ is_kind (the_schema names.now) (graph_of above.now) upper
         (capitals name.entry) }
@@ -25,7 +25,7 @@ fn is_kind(names: &Names<'_, '_>, above: &[Vec<u32>], name: Word<'_>, upper: u32
     }
 }
 
-/// Whether one of some names is a kind of what has a number.
+/// Whether one of the entities `lowers` is `upper` or one of its subtypes.
 fn any_kind(names: &Names<'_, '_>, above: &[Vec<u32>], lowers: &[Word<'_>], upper: u32) -> bool
     ensures { result ≡ list_any (is_kind (the_schema names.now) (graph_of above.now)
         upper) (names_of lowers.now) }
@@ -38,8 +38,8 @@ fn any_kind(names: &Names<'_, '_>, above: &[Vec<u32>], lowers: &[Word<'_>], uppe
     false
 }
 
-/// Whether an entity is above one of these supertypes, or one of them, and has such an attribute
-/// (ISO 10303-11, 9.2.3.4).
+/// Whether `entity` is one of `supertypes` or a supertype of one, and declares or inherits an
+/// attribute `name` (ISO 10303-11, 9.2.3.4).
 pub(crate) fn is_inherited(
     names: &Names<'_, '_>,
     above: &[Vec<u32>],
@@ -59,7 +59,7 @@ pub(crate) fn is_inherited(
     }
 }
 
-/// Whether an entity has such an explicit attribute (ISO 10303-11, 9.2.1.3).
+/// Whether `entity` declares or inherits an explicit attribute `name` (ISO 10303-11, 9.2.1.3).
 pub(crate) fn is_inverted(
     names: &Names<'_, '_>,
     above: &[Vec<u32>],

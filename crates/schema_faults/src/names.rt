@@ -1,4 +1,7 @@
 //! Names that have to be those of types or of entities.
+//!
+//! Each `check_` function fails with the first name that doesn't refer to what its context
+//! requires.
 
 ghost use Rattle.std.specs.Prelude.{◌≡◌, ◌∷◌, [], map, MatchBool};
 ghost use Rattle.express_syntax.specs.ExpressionViews.{capitals};
@@ -6,13 +9,13 @@ ghost use Rattle.express_syntax.specs.Views.{names_of, declaration_of as declara
 ghost use Rattle.schema_semantics.specs.Names.{IsEntity};
 ghost use Rattle.schema_semantics.specs.Faults.{a_type, an_entity};
 ghost use Rattle.schema_names.specs.Schemas.{the_schema};
-ghost use Rattle.schema_faults.specs.Checks.{Checks, is_entity};
+ghost use Rattle.schema_faults.specs.steps.Checks.{Checks, is_entity};
 
 use express_syntax::tree::Declaration;
 use schema_names::names::Names;
 use step_literals::literal::Word;
 
-/// Whether a name is that of a defined type or an entity; else the name.
+/// Checks that a name is that of a defined type or an entity.
 pub(crate) fn check_type<'a>(names: &Names<'a, '_>, word: Word<'a>) -> Result<(), Word<'a>>
     ensures { Checks (the_schema names.now) (a_type (capitals word.entry) ∷ []) result }
 {
@@ -22,14 +25,14 @@ pub(crate) fn check_type<'a>(names: &Names<'a, '_>, word: Word<'a>) -> Result<()
     }
 }
 
-/// Whether a declaration is that of an entity.
+/// Whether `declaration` is an entity.
 fn declares_entity(declaration: &Declaration<'_>) -> bool
     ensures { result ≡ is_entity (declaration_seen declaration.now) }
 {
     matches!(declaration, Declaration::Entity(_))
 }
 
-/// Whether a name is that of an entity.
+/// Whether `word` is the name of an entity.
 fn is_entity(names: &Names<'_, '_>, word: Word<'_>) -> bool
     ensures { MatchBool result (IsEntity (the_schema names.now) (capitals word.entry))
         (IsEntity (the_schema names.now) (capitals word.entry) → ⊥) }
@@ -40,7 +43,7 @@ fn is_entity(names: &Names<'_, '_>, word: Word<'_>) -> bool
     }
 }
 
-/// Whether a name is that of an entity; else the name.
+/// Checks that a name is that of an entity.
 pub(crate) fn check_entity<'a>(names: &Names<'a, '_>, word: Word<'a>) -> Result<(), Word<'a>>
     ensures { Checks (the_schema names.now) (an_entity (capitals word.entry) ∷ []) result }
 {
@@ -51,7 +54,7 @@ pub(crate) fn check_entity<'a>(names: &Names<'a, '_>, word: Word<'a>) -> Result<
     }
 }
 
-/// Whether each of some names is that of a defined type or an entity; else the first that isn't.
+/// Checks that each name is that of a defined type or an entity.
 pub(crate) fn check_types<'a>(names: &Names<'a, '_>, words: &[Word<'a>]) -> Result<(), Word<'a>>
     ensures { Checks (the_schema names.now) (map a_type (names_of words.now)) result }
 {
@@ -61,7 +64,7 @@ pub(crate) fn check_types<'a>(names: &Names<'a, '_>, words: &[Word<'a>]) -> Resu
     Ok(())
 }
 
-/// Whether each of some names is that of an entity; else the first that isn't.
+/// Checks that each name is that of an entity.
 pub(crate) fn check_entities<'a>(names: &Names<'a, '_>, words: &[Word<'a>]) -> Result<(), Word<'a>>
     ensures { Checks (the_schema names.now) (map an_entity (names_of words.now)) result }
 {

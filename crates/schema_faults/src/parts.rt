@@ -1,4 +1,4 @@
-//! What each part of a schema declares, from the first name to the last.
+//! Adding the names that each part of a schema declares, in the order of the text.
 
 ghost use Rattle.std.specs.Prelude.{ℕ, ◌+◌, ◌<◌, ◌^◌, map, flat_map, length, OnOk};
 ghost use Rattle.express_syntax.specs.Views.{
@@ -7,9 +7,9 @@ ghost use Rattle.express_syntax.specs.Views.{
   declaration_of as declaration_seen,
 };
 ghost use Rattle.schema_semantics.specs.Names.{attribute_names};
-ghost use Rattle.schema_semantics.specs.Faults.{in_scope, items_of, declared_from};
-ghost use Rattle.schema_faults.specs.Repeated.{Sees};
-ghost use Rattle.schema_faults.specs.Parts.{
+ghost use Rattle.schema_semantics.specs.Faults.{in_scope, enumerated_items, declared_from};
+ghost use Rattle.schema_faults.specs.steps.Repeated.{Sees};
+ghost use Rattle.schema_faults.specs.steps.Parts.{
   word_in,
   own_in,
   explicit_in,
@@ -18,14 +18,14 @@ ghost use Rattle.schema_faults.specs.Parts.{
   declared_in,
 };
 
-use crate::seen::{Seen, see};
+use crate::declared_names::{Seen, see};
 use express_syntax::tree::{
     Attribute, Declaration, Derived, Entity, Explicit, Inverse, Underlying,
 };
 use std::alloc::AllocError;
 use step_literals::literal::Word;
 
-/// Names of one scope.
+/// Adds names to a scope.
 fn see_words<'a>(seen: &mut Seen<'a>, scope: u32, words: &[Word<'a>]) -> Result<(), AllocError>
     ensures { OnOk result (Sees seen.old seen.new (flat_map (word_in scope) words.now)) }
 {
@@ -35,7 +35,7 @@ fn see_words<'a>(seen: &mut Seen<'a>, scope: u32, words: &[Word<'a>]) -> Result<
     Ok(())
 }
 
-/// An attribute, unless it is redeclared.
+/// Adds the name of an attribute, unless it is a redeclaration.
 fn see_own<'a>(seen: &mut Seen<'a>, scope: u32, attribute: Attribute<'a>) -> Result<(), AllocError>
     ensures { OnOk result (Sees seen.old seen.new (own_in scope attribute.entry)) }
 {
@@ -45,7 +45,7 @@ fn see_own<'a>(seen: &mut Seen<'a>, scope: u32, attribute: Attribute<'a>) -> Res
     }
 }
 
-/// Attributes, those that are redeclared left out.
+/// Adds the names of attributes, except redeclarations.
 fn see_each_own<'a>(
     seen: &mut Seen<'a>,
     scope: u32,
@@ -59,7 +59,7 @@ fn see_each_own<'a>(
     Ok(())
 }
 
-/// The explicit attributes of an entity.
+/// Adds the names of the explicit attributes of an entity.
 fn see_explicits<'a>(
     seen: &mut Seen<'a>,
     scope: u32,
@@ -73,7 +73,7 @@ fn see_explicits<'a>(
     Ok(())
 }
 
-/// Its derived attributes.
+/// Adds the names of the derived attributes of an entity.
 fn see_derived<'a>(
     seen: &mut Seen<'a>,
     scope: u32,
@@ -87,7 +87,7 @@ fn see_derived<'a>(
     Ok(())
 }
 
-/// Its inverse attributes.
+/// Adds the names of the inverse attributes of an entity.
 fn see_inverses<'a>(
     seen: &mut Seen<'a>,
     scope: u32,
@@ -101,7 +101,7 @@ fn see_inverses<'a>(
     Ok(())
 }
 
-/// The attributes of an entity.
+/// Adds the names of the attributes of an entity.
 fn see_attributes<'a>(
     seen: &mut Seen<'a>,
     scope: u32,
@@ -115,14 +115,15 @@ fn see_attributes<'a>(
     see_inverses(seen, scope, entity.inverse_attributes())
 }
 
-/// The items of an enumeration; none of another type.
+/// Adds the items of an enumeration. Adds nothing for other types.
 fn see_items<'a>(
     seen: &mut Seen<'a>,
     scope: u32,
     underlying: &Underlying<'a>,
 ) -> Result<(), AllocError>
     ensures { OnOk result
-        (Sees seen.old seen.new (in_scope scope (items_of (underlying_of underlying.now)))) }
+        (Sees seen.old seen.new (in_scope scope
+        (enumerated_items (underlying_of underlying.now)))) }
 {
     match underlying {
         Underlying::Enumeration(items) => see_words(seen, scope, items),
@@ -130,7 +131,7 @@ fn see_items<'a>(
     }
 }
 
-/// A declaration: its name is one of the schema's scope, and the others are of its own.
+/// Adds the name of a declaration to the scope of the schema, and the names in it to its own scope.
 fn see_declaration<'a>(
     seen: &mut Seen<'a>,
     scope: u32,
@@ -152,7 +153,7 @@ fn see_declaration<'a>(
     }
 }
 
-/// All that a schema declares.
+/// Adds all names that a schema declares.
 pub(crate) fn see_all<'a>(
     seen: &mut Seen<'a>,
     declarations: &[Declaration<'a>],

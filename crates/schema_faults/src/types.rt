@@ -1,4 +1,7 @@
 //! The names in data types.
+//!
+//! Each `check_` function fails with the first name that doesn't refer to what its context
+//! requires.
 
 ghost use Rattle.express_syntax.specs.Views.{data_type_of, underlying_of, supertype_of};
 ghost use Rattle.schema_semantics.specs.Faults.{
@@ -7,14 +10,14 @@ ghost use Rattle.schema_semantics.specs.Faults.{
   demands_of_supertype,
 };
 ghost use Rattle.schema_names.specs.Schemas.{the_schema};
-ghost use Rattle.schema_faults.specs.Checks.{Checks};
+ghost use Rattle.schema_faults.specs.steps.Checks.{Checks};
 
 use crate::names::{check_entities, check_type, check_types};
 use express_syntax::tree::{DataType, Supertype, Underlying};
 use schema_names::names::Names;
 use step_literals::literal::Word;
 
-/// What a data type names, behind whatever aggregates (ISO 10303-11, 8).
+/// Checks the name in a data type, if any, through all aggregates (ISO 10303-11, 8).
 pub(crate) fn check_data_type<'a>(
     names: &Names<'a, '_>,
     data_type: &DataType<'a>,
@@ -33,7 +36,7 @@ pub(crate) fn check_data_type<'a>(
     }
 }
 
-/// What stands behind the `=` of a defined type (ISO 10303-11, 8.3 and 8.4).
+/// Checks the names in an underlying type (ISO 10303-11, 8.3 and 8.4).
 pub(crate) fn check_underlying<'a>(
     names: &Names<'a, '_>,
     underlying: &Underlying<'a>,
@@ -48,7 +51,7 @@ pub(crate) fn check_underlying<'a>(
     }
 }
 
-/// The operands of ONEOF (ISO 10303-11, 9.2.5).
+/// Checks the operands of ONEOF (ISO 10303-11, 9.2.5).
 pub(crate) fn check_supertype<'a>(
     names: &Names<'a, '_>,
     supertype: &Supertype<'a>,

@@ -1,6 +1,6 @@
 -- The laws of numbers.
 use Rattle.std.proofs.Common.{subst}
-use Rattle.digraph.specs.Graphs.{Leads}
+use Rattle.graphs.specs.Graphs.{Leads}
 use Rattle.express_syntax.specs.Schemas.{named}
 use Rattle.schema_semantics.specs.Names.{IsBelow, IsMadeOf}
 use Rattle.schema_names.specs.Edges.{supertypes_in, parts_in}

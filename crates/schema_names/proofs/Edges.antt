@@ -4,7 +4,7 @@ use Rattle.std.specs.List.{cons_option}
 use Rattle.std.proofs.Common.{refl, inl, inr, ap, sym, subst, ◌∙◌, arith, zero, suc}
 use Rattle.std.proofs.lemmas.List.{length-map}
 use Rattle.std.proofs.lemmas.Bool.Decides.{nat_tests}
-use Rattle.digraph.specs.Graphs.{Graph, has, Step, Chain, Leads, Reaches, IsGraph}
+use Rattle.graphs.specs.Graphs.{Graph, has, Step, Chain, Leads, Reaches, IsGraph}
 use Rattle.express_syntax.specs.Schemas.{Schema, Declaration, type, entity, skipped, Underlying, enumeration, select, data_type, DataType, named}
 use Rattle.schema_semantics.specs.Names.{Name, Among, declaration_of, IsSubtypeOf, IsBelow, IsMadeOf, StandsFor}
 use Rattle.schema_semantics.proofs.Lists.{leads-kept}

@@ -4,10 +4,10 @@ use Rattle.std.specs.Option.{option_map}
 use Rattle.std.proofs.Common.{refl, ap, sym, subst, ◌∙◌, zero, suc}
 use Rattle.std.proofs.lemmas.List.{length-map}
 use Rattle.std.proofs.lemmas.Option.{slice_get-map}
-use Rattle.digraph.specs.Graphs.{Graph}
+use Rattle.graphs.specs.Graphs.{Graph}
 use Rattle.schema_names.proofs.Rows.{map-joined}
 use Rattle.express_syntax.specs.Schemas.{Declaration}
-use Rattle.schema_names.specs.Numbers.{AreAt, AreRowsOf}
+use Rattle.schema_names.specs.Numbers.{AreAt, AreNumberRowsOf}
 
 -- what is at a number stays there as the list goes on
 pub stays : {A : Type 0} (xs ys : List A) (k : ℕ) (x : A) → slice_get xs k ≡ Some x → slice_get (xs ++ ys) k ≡ Some x
@@ -61,13 +61,13 @@ joined-at all row rest ps qs h k =
 
 -- rows of declarations
 pub rows-same : {A : Type 0} (of : Declaration → List A) (all : List A) (ds : List Declaration) (rows : Graph)
-    → AreRowsOf of all ds rows → length rows ≡ length ds
+    → AreNumberRowsOf of all ds rows → length rows ≡ length ds
 rows-same of all ds rows h =
     sym (length-map rows (map (slice_get all))) ∙ ap length h
     ∙ length-map ds (λ (d : Declaration). map Some (of d))
 
 pub stay-rows : {A : Type 0} (of : Declaration → List A) (all more : List A) (ds : List Declaration)
-    (rows : List (List ℕ)) → AreRowsOf of all ds rows → AreRowsOf of (all ++ more) ds rows
+    (rows : List (List ℕ)) → AreNumberRowsOf of all ds rows → AreNumberRowsOf of (all ++ more) ds rows
 stay-rows of all more [] [] h = refl
 stay-rows of all more [] (r ∷ rows) h = absurd (cc)
 stay-rows of all more (d ∷ ds) [] h = absurd (cc)
@@ -80,8 +80,8 @@ stay-rows of all more (d ∷ ds) (r ∷ rows) h =
     ∙ ap (λ os. map Some (of d) ∷ os) (stay-rows of all more ds rows rest)
 
 pub one-more-row : {A : Type 0} (of : Declaration → List A) (all : List A) (ds : List Declaration) (d : Declaration)
-    (rows : List (List ℕ)) (row : List ℕ) → AreRowsOf of all ds rows → AreAt all row (of d)
-    → AreRowsOf of all (ds ++ d ∷ []) (rows ++ row ∷ [])
+    (rows : List (List ℕ)) (row : List ℕ) → AreNumberRowsOf of all ds rows → AreAt all row (of d)
+    → AreNumberRowsOf of all (ds ++ d ∷ []) (rows ++ row ∷ [])
 one-more-row of all ds d rows row h k =
     map-joined (map (slice_get all)) rows (row ∷ [])
     ∙ ap (λ xs. xs ++ map (slice_get all) row ∷ []) h
@@ -90,7 +90,7 @@ one-more-row of all ds d rows row h k =
 
 -- the row of a declaration
 pub row-at : {A : Type 0} (of : Declaration → List A) (all : List A) (ds : List Declaration) (rows : List (List ℕ))
-    (i : ℕ) (d : Declaration) → AreRowsOf of all ds rows → slice_get ds i ≡ Some d → AreAt all (get_or rows i []) (of d)
+    (i : ℕ) (d : Declaration) → AreNumberRowsOf of all ds rows → slice_get ds i ≡ Some d → AreAt all (get_or rows i []) (of d)
 row-at of all [] rows i d h at = absurd (cc)
 row-at of all (x ∷ ds) [] i d h at = absurd (cc)
 row-at of all (x ∷ ds) (r ∷ rows) zero d h at =

@@ -18,7 +18,7 @@ use Rattle.express_syntax.specs.declared.tree.Declaration.{Declaration}
 use Rattle.express_syntax.specs.ExpressionViews.{capitals}
 use Rattle.express_syntax.specs.Views.{names_of, declaration_of}
 use Rattle.schema_semantics.specs.Names.{Name}
-use Rattle.schema_names.specs.Enumerated.{includes, some_items, by_name, IsItemRow, words_at}
+use Rattle.schema_names.specs.steps.Enumerated.{includes, some_items, by_name, IsItemRow, words_at}
 
 -- an order keeps what is among some
 pub includes-shuffled : (ws vs : List Word) → IsPermutation ws vs → (n : Name)

@@ -9,9 +9,9 @@ use Rattle.express_syntax.specs.declared.tree.Declaration.{Declaration}
 use Rattle.express_syntax.specs.Schemas.{Attribute, own, redeclared}
 use Rattle.express_syntax.specs.Views.{names_of, declaration_of}
 use Rattle.schema_semantics.specs.Names.{Name, own_names}
-use Rattle.schema_names.specs.declared.owned.Class.{Class}
-use Rattle.schema_names.specs.Enumerated.{includes, by_name}
-use Rattle.schema_names.specs.OwnNames.{names_in, some_names, IsRowOf, AreOwnRows}
+use Rattle.schema_names.specs.declared.attribute_names.Class.{Class}
+use Rattle.schema_names.specs.steps.Enumerated.{includes, by_name}
+use Rattle.schema_names.specs.steps.OwnNames.{names_in, some_names, IsRowOf, AreOwnRows}
 
 own-joined : (ts us : List Attribute) → own_names (ts ++ us) ≡ own_names ts ++ own_names us
 own-joined [] us = refl
@@ -43,7 +43,7 @@ names-more ts us t first old new more h is =
     is ∙ ap (λ ns. ns ++ own_names (t ∷ [])) h ∙ append_assoc first (own_names ts) (own_names (t ∷ []))
     ∙ ap (λ ns. first ++ ns) (sym (own-joined ts (t ∷ []))) ∙ ap (λ vs. first ++ own_names vs) (sym more)
 
--- .. and a declaration of some more
+-- the names of one more declaration
 pub flat-more : {A B : Type 0} (f : B → List Name) (g : A → B) (xs : List A) (k : ℕ) (x : A)
     (first old new : List Name) → k < length xs → x ≡ get_or xs k x
     → old ≡ first ++ flat_map f (map g (take k xs)) → new ≡ old ++ f (g x)

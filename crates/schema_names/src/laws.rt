@@ -1,4 +1,4 @@
-//! Laws of the definitions alone.
+//! Laws of the definitions.
 
 ghost use Rattle.schema_names.specs.Laws.{
   EdgesLeadWithin,
@@ -7,23 +7,25 @@ ghost use Rattle.schema_names.specs.Laws.{
   ReachedAreSupertypes,
 };
 
-/// A number is that of one name, and of the declaration that it stands for (ISO 10303-11, 10.3).
+/// Names with one number are equal, and the number of a name is that of its declaration
+/// (ISO 10303-11, 10.3).
 pub fn numbers_are_names()
     ensures { NumbersAreNames }
 {}
 
-/// Along SUBTYPE OF, what is reached by number is a proper supertype by name (ISO 10303-11, 9.2.3).
+/// The numbers that are reachable along SUBTYPE OF are those of the proper supertypes
+/// (ISO 10303-11, 9.2.3).
 pub fn reached_are_supertypes()
     ensures { ReachedAreSupertypes }
 {}
 
-/// What is reached by number is what a defined type is made of by name
+/// The numbers that are reachable along parts are those of the types that a defined type is made of
 /// (ISO 10303-11, 8.3.2 and 8.4.2).
 pub fn reached_are_parts()
     ensures { ReachedAreParts }
 {}
 
-/// Each edge leads to a declaration.
+/// Each edge ends at a declaration.
 pub fn edges_lead_within()
     ensures { EdgesLeadWithin }
 {}

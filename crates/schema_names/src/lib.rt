@@ -1,10 +1,10 @@
-//! The names of a schema (ISO 10303-11, 10): a number for what each stands for, and graphs on these
-//! numbers.
+//! The names of a schema (ISO 10303-11, 10): a number for the declaration of each name, and graphs
+//! on these numbers.
 #![tactic(auto)]
 
-pub mod capitals;
-mod enumerated;
-pub mod graphs;
+pub mod attribute_names;
+pub mod capital_names;
+pub mod declaration_graphs;
+mod enumeration_items;
 pub mod laws;
 pub mod names;
-pub mod owned;

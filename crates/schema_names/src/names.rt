@@ -1,4 +1,4 @@
-//! Names and the numbers of what they stand for.
+//! Names, and the numbers of their declarations.
 
 ghost use Rattle.std.specs.Prelude.{
   ◌≡◌,
@@ -29,32 +29,33 @@ ghost use Rattle.express_syntax.specs.SchemaViews.{schema_of};
 ghost use Rattle.schema_semantics.specs.Names.{Name, declared_name, is_named};
 ghost use Rattle.schema_names.specs.Words.{same_word};
 ghost use Rattle.schema_names.specs.Numbers.{number_from, number_of, IsAt};
-ghost use Rattle.schema_names.specs.Enumerated.{includes, items_at, by_name, words_at};
-ghost use Rattle.schema_names.specs.declared.owned.Class.TheVariants.{Explicit, Other};
-ghost use Rattle.schema_names.specs.OwnNames.{names_at, AreOwnRows};
+ghost use Rattle.schema_names.specs.steps.Enumerated.{includes, items_at, by_name, words_at};
+ghost use Rattle.schema_names.specs.declared.attribute_names.Class.TheVariants.{Explicit, Other};
+ghost use Rattle.schema_names.specs.steps.OwnNames.{names_at, AreOwnRows};
 
-use crate::enumerated::{has_word, item_rows};
-use crate::owned::{Class, OwnRows, has_in, own_rows};
+use crate::attribute_names::{Class, OwnRows, has_in, own_rows};
+use crate::enumeration_items::{has_word, item_rows};
 use express_syntax::tree::{Declaration, SchemaTree};
 use indexmap::IndexMap;
 use std::alloc::{AllocError, Global};
 use std::hash::RandomState;
 use step_literals::literal::Word;
 
-/// So many declarations have numbers of 32 bits, and the scopes that they make too.
+/// The most declarations that a schema may have: they, and the scopes that they make, get 32-bit
+/// numbers.
 const MOST_DECLARATIONS: usize = 4_294_967_295;
 
-/// Numbers by name. Names are hashed by keys that the author of a text doesn't know, so that nobody
-/// can choose names that are slow to find.
+/// Numbers by name. The hash keys are random, so no schema can be crafted to collide.
 type Numbers<'a> = IndexMap<Word<'a>, u32, RandomState>;
 
-/// The names of the types and entities of a schema. Each stands for the first declaration that has
-/// it, and has its number, its place in the text counted from 0 (ISO 10303-11, 10.3).
+/// The names of the types and entities of a schema. A name refers to the first declaration that has
+/// it. The number of that declaration is its position in the text, counted from 0
+/// (ISO 10303-11, 10.3).
 #[derive(Drop)]
 pub struct Names<'a, 't> {
     pub schema: &'t SchemaTree<'a>,
     numbers: Numbers<'a>,
-    /// By declaration, the items of an enumeration, in the order of their names.
+    /// By declaration, the items of an enumeration, sorted by name.
     items: Vec<Vec<Word<'a>>>,
     explicits: OwnRows<'a>,
     others: OwnRows<'a>,
@@ -70,7 +71,7 @@ pub struct Names<'a, 't> {
         (get nat_eq others) } by { Prim.hlevel props },
 }
 
-/// The name of a type or an entity.
+/// Returns the name of a type or an entity, otherwise `None`.
 fn declared_word<'a>(declaration: &Declaration<'a>) -> Option<Word<'a>>
     ensures { if_some capitals result ≡ declared_name (declaration_seen declaration.now) }
 {
@@ -81,7 +82,7 @@ fn declared_word<'a>(declaration: &Declaration<'a>) -> Option<Word<'a>>
     }
 }
 
-/// Gives the name of a declaration its number, in place of a later one of that name.
+/// Maps the name of `declaration`, if any, to `number`, replacing an earlier entry.
 fn number<'a>(
     numbers: &mut Numbers<'a>,
     declaration: &Declaration<'a>,
@@ -98,7 +99,7 @@ fn number<'a>(
     Ok(())
 }
 
-/// The numbers of the names of some declarations.
+/// Maps each name to the number of the first declaration that has it.
 fn numbers_of<'a>(
     alloc: Global,
     keys: RandomState,
@@ -118,9 +119,10 @@ fn numbers_of<'a>(
 impl<'a, 't> Names<'a, 't> {
     ghost use Rattle.schema_names.specs.Schemas.{the_schema};
 
-    /// The names of this schema, hashed by these keys.
+    /// Returns the names of `schema`, hashed with `keys`.
     ///
-    /// Where it has more than 2^32 - 1 declarations there is no memory for it.
+    /// # Errors
+    /// `AllocError` if memory runs out or the schema has more than 2^32 - 1 declarations.
     pub fn of(
         alloc: Global,
         keys: RandomState,
@@ -144,14 +146,14 @@ impl<'a, 't> Names<'a, 't> {
         })
     }
 
-    /// The number of what a name stands for; none where no type or entity has it.
+    /// Returns the number of the first type or entity of this name, if any.
     pub fn find(&self, name: Word<'_>) -> Option<u32>
         ensures { result ≡ number_of (the_schema self.now) (capitals name.entry) }
     {
         self.numbers.get(&name).copied()
     }
 
-    /// The name of what is declared at a number, where that is a type or an entity.
+    /// Returns the name of the type or entity with this number, or `None` for other declarations.
     pub fn name(&self, number: u32) -> Option<Word<'a>>
         requires { number < length self.now.schema.now.declarations.items }
         ensures { (d : DeclarationTree) → IsAt (the_schema self.now) number d
@@ -160,7 +162,7 @@ impl<'a, 't> Names<'a, 't> {
         declared_word(self.declaration(number))
     }
 
-    /// What is declared at a number.
+    /// Returns the declaration with this number.
     pub fn declaration(&self, number: u32) -> &Declaration<'a>
         requires { number < length self.now.schema.now.declarations.items }
         ensures { slice_get self.now.schema.now.declarations.items number ≡ Some result.now }
@@ -168,7 +170,7 @@ impl<'a, 't> Names<'a, 't> {
         &self.schema.declarations[number as usize]
     }
 
-    /// What is declared at a number; none where nothing is.
+    /// Returns the declaration with this number, if any.
     pub fn at(&self, number: u32) -> Option<&Declaration<'a>>
         ensures { option_copied result
             ≡ slice_get self.now.schema.now.declarations.items number }
@@ -176,8 +178,10 @@ impl<'a, 't> Names<'a, 't> {
         self.schema.declarations.get(number as usize)
     }
 
-    /// Whether the enumeration that is declared at a number has an item of this name
-    /// (ISO 10303-11, 8.4.1). It takes time for the logarithm of how many items it has.
+    /// Whether the declaration with this number is an enumeration with an item `name`
+    /// (ISO 10303-11, 8.4.1).
+    ///
+    /// Takes time logarithmic in the count of its items.
     pub fn has_item(&self, number: u32, name: Word<'_>) -> bool
         ensures { result ≡ includes (items_at (the_schema self.now) number) (capitals name.entry) }
     {
@@ -187,11 +191,11 @@ impl<'a, 't> Names<'a, 't> {
         }
     }
 
-    /// Whether the entity that is declared at a number declares an attribute of this class and name
-    /// itself, where there is a row of its names (ISO 10303-11, 9.2.1). None where there is none, as
-    /// of an entity that declares few.
+    /// Whether the entity with this number declares an attribute `name` of `class` itself
+    /// (ISO 10303-11, 9.2.1). `None` if the entity has no row of names, because it declares few
+    /// attributes of `class`.
     ///
-    /// It takes time for the logarithm of how many it declares.
+    /// Takes time logarithmic in the count of these attributes.
     pub fn has_own(&self, number: u32, class: Class, name: Word<'_>) -> Option<bool>
         ensures { IfSome result (λ b. b ≡ includes
             (names_at (the_schema self.now) class number) (capitals name.entry)) }
@@ -202,14 +206,14 @@ impl<'a, 't> Names<'a, 't> {
         }
     }
 
-    /// How many declarations there are.
+    /// Returns the count of declarations.
     pub fn len(&self) -> usize
         ensures { result ≡ vec_len self.now.schema.now.declarations }
     {
         self.schema.declarations.len()
     }
 
-    /// All that is declared, by number.
+    /// Returns all declarations, indexed by number.
     pub fn declarations(&self) -> &[Declaration<'a>]
         ensures { result.now ≡ self.now.schema.now.declarations.items }
     {

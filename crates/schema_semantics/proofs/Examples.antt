@@ -18,7 +18,7 @@ use Rattle.schema_semantics.specs.declared.unchecked.PartKind.TheVariants as par
 use Rattle.schema_semantics.specs.declared.unchecked.Reason.TheVariants as reasons
 use Rattle.schema_semantics.specs.Names.{Name, IsFirst, IsMadeOf, IsEntity, IsType, IsBelow, IsKindOf, IsEntityAt, IsTypeAt, IsSubtypeOf, listed, Among, entities, supertypes_of, explicit_names}
 use Rattle.schema_semantics.specs.Faults.{Demand, IsMet, a_type, an_entity, inherited, inverted, demands, declared, Declared, IsFirstAgain, IsFault, IsOwnSupertype}
-use Rattle.schema_semantics.specs.Shapes.{AreAlike, KeepsShapes, HasShape, AreOne, Shape, of_lists, an_aggregate}
+use Rattle.schema_semantics.specs.Shapes.{AreAlikeTypes, KeepsShapes, HasShape, AreOne, TypeShape, of_lists, an_aggregate}
 use Rattle.schema_semantics.specs.Attributes.{Place, IsPlaces, Derivation, IsNth, IsOrigin}
 use Rattle.schema_semantics.specs.Reasons.{SaysName, BodyMayUse, HasBadKind, MayBeDeep, HasUnclearName}
 use Rattle.schema_semantics.specs.Sets.{May, MayTake, TakesTwo, itself, variable, attribute_of_self, item_of_type, item}
@@ -285,14 +285,14 @@ a-is-a-list : (n : Name) → IsTypeAt lists n (record { name = n; underlying = d
 a-is-a-list n at =
     (list_of n, inr ([], (record { name = n; underlying = data_type (list_of n); rules = None }, at, refl)), refl)
 
-a-and-b-are-alike : AreAlike lists (named A) (named B)
+a-and-b-are-alike : AreAlikeTypes lists (named A) (named B)
 a-and-b-are-alike = (relates, refl, keeps)
   where
     names : (k l : DataType) → (is_name A k && is_name B l) ≡ true → (k ≡ named A) × (l ≡ named B)
     names k l h = let two = both-hold (is_name A k) (is_name B l) h in (is-named A k two.0, is-named B l two.1)
 
     alike : DataType → DataType → Type 0
-    alike k l = (f g : Shape) × HasShape lists k f × HasShape lists l g × AreOne relates f g
+    alike k l = (f g : TypeShape) × HasShape lists k f × HasShape lists l g × AreOne relates f g
 
     keeps : KeepsShapes lists relates
     keeps k l h =

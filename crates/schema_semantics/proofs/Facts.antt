@@ -11,12 +11,12 @@ use Rattle.express_syntax.specs.Profile.{Every}
 use Rattle.schema_semantics.specs.declared.unchecked.Reason.{Reason}
 use Rattle.schema_semantics.specs.declared.unchecked.Reason.TheVariants as reasons
 use Rattle.schema_semantics.specs.Names.{Name, IsOrLeads, OneOf, Among, listed, entities, types, attribute_names, IsEntityAt, Declares}
-use Rattle.schema_semantics.specs.Faults.{items_of}
+use Rattle.schema_semantics.specs.Faults.{enumerated_items}
 use Rattle.schema_semantics.specs.Shapes.{Atom}
 use Rattle.schema_semantics.specs.Attributes.{Derivation, IsNth, IsDerivation, IsRedeclaration, Derives}
-use Rattle.schema_semantics.specs.Sets.{Set, WithSubtypes, AttributeReference, of_set, of_entity, attribute_name, MayTake, IsUnclear, MayUse, Variable, IsVariable, Meaning, itself, variable, attribute_of_self, item_of_type, item, MayMean, Means, path, IsItemOf, OfReference, IsUnclearReference, ReferenceMayUse}
+use Rattle.schema_semantics.specs.Sets.{Set, WithSubtypes, AttributeReference, of_set, of_entity, attribute_name, MayTake, IsUnclear, MayUse, QueryVariable, IsVariable, Meaning, itself, variable, attribute_of_self, item_of_type, item, MayMean, Means, path, IsItemOf, OfReference, IsUnclearReference, ReferenceMayUse}
 use Rattle.schema_semantics.specs.Reasons.{HasLooseAggregate, HasUnclearName, HasBadTypeof, HasBadKind, BodyMayUse, GivesReason}
-use Rattle.schema_semantics.specs.Ranks.{Self, Uses, LeadsToItself, IsFaulty, IsSetAside, HasReason, derived_name}
+use Rattle.schema_semantics.specs.Ranks.{Self, Uses, LeadsToItself, HasOwnReason, IsSetAside, HasReason, derived_name}
 use Rattle.schema_semantics.specs.Parts.{IsBeyond}
 use Rattle.schema_semantics.proofs.Lists.{among-map, among-flat, every-at, first-is-one, first-holds, first-step}
 use Rattle.schema_semantics.proofs.Faults.{type-name}
@@ -81,7 +81,8 @@ one-declarer s p q a one h = by (subst (λ ns. Among q ns) one (is-declarer s q 
 abbrev pub of_self : Schema → Name → Name → AttributeReference
 of_self s e a = of_set (WithSubtypes s (Self e)) a
 
--- .. takes the attribute that e itself declares
+-- `SELF.a`, or `a` alone, in the entity `e` means the attribute `a` that `e` itself declares, if
+-- any.
 pub takes-own : (s : Schema) (e a : Name) → Declares s e a → MayTake s (of_self s e a) e
 takes-own s e a h = (e, (e, refl, inl refl), (inl refl, h))
 
@@ -120,7 +121,7 @@ uses-one s e h n q one (p, taken, derives) = by (subst (λ ns. Among e ns) one (
     by (inr k) = elim k [ ]
 
 -- what a reference means is one
-module _ (s : Schema) (self : Set) (vs : List Variable) (r : Root) (qs : Qualifiers) (m : Meaning)
+module _ (s : Schema) (self : Set) (vs : List QueryVariable) (r : Root) (qs : Qualifiers) (m : Meaning)
     (means : Means s self vs r qs m) where
   alone : (P : Meaning → Type 0) → ((k : Meaning) × Means s self vs r qs k × P k) → P m
   alone P (k, other, h) =
@@ -139,12 +140,12 @@ module _ (s : Schema) (self : Set) (vs : List Variable) (r : Root) (qs : Qualifi
   pub may-only : (x : Atom) → OfReference s self vs r qs x → (path s self vs r qs m).may x
   may-only x h = alone (λ k. (path s self vs r qs k).may x) h
 
-pub means-attribute : (s : Schema) (self : Set) (vs : List Variable) (n p : Name) (qs : Qualifiers)
+pub means-attribute : (s : Schema) (self : Set) (vs : List QueryVariable) (n p : Name) (qs : Qualifiers)
     → (IsVariable vs n → ⊥) → MayTake s (of_set (WithSubtypes s self) n) p
     → Means s self vs (trees.named n) qs attribute_of_self
 means-attribute s self vs n p qs free taken = inr (never, inr (free, inl ((p, taken), refl)))
 
-pub means-variable : (s : Schema) (self : Set) (vs : List Variable) (n : Name) (qs : Qualifiers)
+pub means-variable : (s : Schema) (self : Set) (vs : List QueryVariable) (n : Name) (qs : Qualifiers)
     → IsVariable vs n → Means s self vs (trees.named n) qs variable
 means-variable s self vs n qs is = inr (never, inl (is, refl))
 
@@ -186,12 +187,12 @@ not-set-aside s e x at sound n (u, way, why) = by way why
     faultless : (d : Derived) → IsDerivation s (e, n) d → (r : Reason) → GivesReason s (Self e) d.body r → ⊥
     faultless d is = (is-sound d is).1
 
-    at-start : IsFaulty s (e, n) ⊎ LeadsToItself s (e, n) → ⊥
+    at-start : HasOwnReason s (e, n) ⊎ LeadsToItself s (e, n) → ⊥
     at-start (inl (d, is, r, gives)) = faultless d is r gives
     at-start (inr back) = let step = first-step (Uses s) (e, n) (e, n) back in unused step.0 step.1
 
-    by : IsOrLeads (Uses s) (e, n) u → IsFaulty s u ⊎ LeadsToItself s u → ⊥
-    by (inl here) why = at-start (subst (λ v. IsFaulty s v ⊎ LeadsToItself s v) (sym here) why)
+    by : IsOrLeads (Uses s) (e, n) u → HasOwnReason s u ⊎ LeadsToItself s u → ⊥
+    by (inl here) why = at-start (subst (λ v. HasOwnReason s v ⊎ LeadsToItself s v) (sym here) why)
     by (inr on) why = let step = first-step (Uses s) (e, n) u on in unused step.0 step.1
 
 -- a number within 64 bits
@@ -209,10 +210,10 @@ is-within t m hm he small r (e, beyond) = beyond (pos m) (record { sfits = small
 
 -- items of enumerations
 pub item-among : (s : Schema) (t n : Name) → IsItemOf s t n
-    → Among n (flat_map (λ (d : TypeDeclaration). items_of d.underlying) (types s))
+    → Among n (flat_map (λ (d : TypeDeclaration). enumerated_items d.underlying) (types s))
 item-among s t n (e, items, way, (d, at, u), m) =
-    among-flat (λ (d : TypeDeclaration). items_of d.underlying) d n (types s) (type-name s e d at).0
-    (subst (λ x. Among n (items_of x)) (sym u) m)
+    among-flat (λ (d : TypeDeclaration). enumerated_items d.underlying) d n (types s) (type-name s e d at).0
+    (subst (λ x. Among n (enumerated_items x)) (sym u) m)
 
 -- no derived attribute uses another
 pub no-uses : (s : Schema) → Every (λ (x : Entity). Every (λ (d : Derived). (u : Derivation)

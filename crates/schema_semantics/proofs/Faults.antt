@@ -4,14 +4,14 @@ use Rattle.std.proofs.Common.{refl, inl, inr, ap, subst}
 use Rattle.express_syntax.specs.Schemas.{Schema, Declaration, type, entity, skipped, TypeDeclaration, Entity, DataType, named}
 use Rattle.express_syntax.specs.declared.fault.NameFault.{NameFault}
 use Rattle.express_syntax.specs.declared.fault.NameFault.TheVariants.{UnknownName, DuplicateName, SupertypeCycle, TypeCycle}
-use Rattle.schema_semantics.specs.Names.{Name, Among, entities, types, types_of, IsType, IsTypeAt, IsSubtypeOf, IsBelow, IsMadeOf}
-use Rattle.schema_semantics.specs.Faults.{Demand, Declared, IsMet, demands, declared, asked, IsAboveItself, IsMadeOfItself, IsUnknown, IsDuplicate, IsFault, IsFreeOf, IsResolved}
+use Rattle.schema_semantics.specs.Names.{Name, Among, entities, types, type_declarations_of, IsType, IsTypeAt, IsSubtypeOf, IsBelow, IsMadeOf}
+use Rattle.schema_semantics.specs.Faults.{Demand, Declared, IsMet, demands, declared, asked, IsAboveItself, IsMadeOfItself, IsFirstUnknownName, IsDuplicate, IsFault, IsFreeOf, IsResolved}
 use Rattle.express_syntax.specs.Profile.{Every}
 use Rattle.schema_semantics.specs.Laws.{FaultsAreOne}
 use Rattle.schema_semantics.proofs.Lists.{among-map, every-at, every-may-hold, none-holds, none-twice, again-is-one, again-twice, first-is-one, first-holds, first-among, first-step}
 use Rattle.schema_semantics.proofs.Supertypes.{found, entity-name}
 
-unknown-is-one : (s : Schema) (m n : Name) → IsUnknown s m → IsUnknown s n → m ≡ n
+unknown-is-one : (s : Schema) (m n : Name) → IsFirstUnknownName s m → IsFirstUnknownName s n → m ≡ n
 unknown-is-one s m n (d, f, x) (e, g, y) =
     let same : d ≡ e = first-is-one (λ (d : Demand). IsMet s d → ⊥) (demands s) d e f g in
     let names : asked d ≡ asked e = ap asked same in cc
@@ -28,7 +28,7 @@ entity-named s n h =
     subst (λ x. Among x (map (λ (e : Entity). e.name) (entities s))) at.1
     (among-map (λ (e : Entity). e.name) step.1.0 (entities s) at.0)
 
-among-types : (ds : List Declaration) (t : TypeDeclaration) → Among (type t) ds → Among t (types_of ds)
+among-types : (ds : List Declaration) (t : TypeDeclaration) → Among (type t) ds → Among t (type_declarations_of ds)
 among-types [] t h = elim h [ ]
 among-types (type x ∷ ds) t (inl h) = inl (cc)
 among-types (type x ∷ ds) t (inr h) = inr (among-types ds t h)
@@ -59,7 +59,7 @@ none-unknown s known n (d, f, e) =
     first-holds (λ (d : Demand). IsMet s d → ⊥) (demands s) d f (every-at (IsMet s) d (demands s) known
     (first-among (λ (d : Demand). IsMet s d → ⊥) (demands s) d f))
 
--- .. and where no other fault shows either, the names are resolved
+-- If all demands are met and no other fault shows, the names are resolved.
 pub resolved : (s : Schema) → Every (IsMet s) (demands s) → IsFreeOf s DuplicateName → IsFreeOf s SupertypeCycle
     → IsFreeOf s TypeCycle → IsResolved s
 resolved s known d c t = record {

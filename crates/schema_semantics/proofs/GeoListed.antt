@@ -5,7 +5,7 @@ use Rattle.std.specs.Str.{is_utf8, chars}
 use Rattle.step_literals.specs.declared.literal.items.Item.{Item}
 use Rattle.step_literals.specs.declared.literal.items.Item.TheVariants.{Code}
 use Rattle.step_literals.proofs.StringLemmas.{unique}
-use Rattle.express_lexis.specs.Meanings.{characters_of}
+use Rattle.express_lexer.specs.Meanings.{characters_of}
 use Rattle.step_literals.specs.Decimals.{mantissa, exponent, IsWorth}
 use Rattle.express_syntax.specs.Trees.{Tree, reference, comparison, call, query, literal, text, plain, attribute}
 use Rattle.express_syntax.specs.Trees as trees
@@ -18,7 +18,7 @@ use Rattle.schema_semantics.specs.Names.{Name, Among, IsFirst, listed, attribute
 use Rattle.schema_semantics.specs.Shapes.{Sort, Atom, a_number, IsOverSelect}
 use Rattle.schema_semantics.specs.Shapes as shapes
 use Rattle.schema_semantics.specs.Attributes.{Derivation, IsNth}
-use Rattle.schema_semantics.specs.Sets.{Only, WithSubtypes, AttributeReference, of_set, MayTake, OfTaken, Variable, Meaning, itself, variable, attribute_of_self, item_of_type, item, MayMean, Means, IsUnclearReference, ReferenceMayUse, May}
+use Rattle.schema_semantics.specs.Sets.{Only, WithSubtypes, AttributeReference, of_set, MayTake, OfTaken, QueryVariable, Meaning, itself, variable, attribute_of_self, item_of_type, item, MayMean, Means, IsUnclearReference, ReferenceMayUse, May}
 use Rattle.schema_semantics.specs.Reasons.{SaysName, IsTypeTest, MayBeDeep, MayBeUnordered, IsUnordered, BodyMayUse, bound_to, GivesReason}
 use Rattle.schema_semantics.specs.Ranks.{Self, Uses, IsSetAside, HasReason, IsFirstFor, IsRankAt}
 use Rattle.schema_semantics.specs.Parts.{Unchecked, Lists, AreUnchecked, all_reasons, for_each, parts_of_declaration, IsBeyond, NamesAttribute, NamesOther, NamesNotOne, UniqueHasReason}
@@ -101,7 +101,7 @@ module _ (s : Schema) (known : IsGeo s) where
       (sound-dim reasons.Typeof) (sound-dim reasons.Kind) (λ u uses aside. unused-dim u uses)
 
   -- SIZEOF(QUERY(r <* ratios | r <> 0.0)) > 0
-  within : List Variable
+  within : List QueryVariable
   within = bound_to s (Self DIRECTION) [] R (name_tree RATIOS) ∷ []
 
   means-r : Means s (Self DIRECTION) within (trees.named R) plain variable

@@ -3,7 +3,7 @@ use Rattle.std.specs.Prelude.{◌≡◌, ℕ, ◌<◌, Bool, true, false, cond, 
 use Rattle.std.specs.List.{list_any}
 use Rattle.std.proofs.Common.{refl, inl, inr, ap, sym, subst, arith}
 use Rattle.std.proofs.lemmas.Slice.Eq.{bytes_eq-Decides}
-use Rattle.digraph.specs.Graphs.{Chain, Leads}
+use Rattle.graphs.specs.Graphs.{Chain, Leads}
 use Rattle.express_syntax.specs.Schemas.{TypeDeclaration, Entity, Underlying, enumeration, select, data_type, DataType, named, integer}
 use Rattle.express_syntax.specs.Profile.{Every}
 use Rattle.schema_semantics.specs.Names.{Name, Among, entities, types, supertypes_of, IsSubtypeOf, Renames, HasItem, IsMadeOf}

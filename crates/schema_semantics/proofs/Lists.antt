@@ -3,7 +3,7 @@ use Rattle.std.specs.Prelude.{◌≡◌, Bool, true, false, cond, List, [], ◌�
 use Rattle.std.specs.List.{filter}
 use Rattle.std.proofs.Common.{refl, inl, inr, ap, sym, subst, ◌∙◌}
 use Rattle.std.proofs.lemmas.Bool.{both_ways}
-use Rattle.digraph.specs.Graphs.{Chain, Leads}
+use Rattle.graphs.specs.Graphs.{Chain, Leads}
 use Rattle.express_syntax.specs.Profile.{Every}
 use Rattle.schema_semantics.specs.Names.{Among, IsFirst}
 use Rattle.schema_semantics.specs.Faults.{StandsTwice, IsFirstAgain}
@@ -179,7 +179,8 @@ pub none-behind : {A : Type 0} (before : List A) (y : A) (ys : List A)
     → ((x : A) → IsFirstAgain before (y ∷ ys) x → ⊥) → (x : A) → IsFirstAgain (y ∷ before) ys x → ⊥
 none-behind before y ys h x f = h x (inr ((λ n. h y (inl (n, refl))), f))
 
--- .. none came before, and none stands twice
+-- If no item is the first that comes again, no item of the list is in `before`, and none is in the
+-- list twice.
 none-before : {A : Type 0} (before xs : List A) → ((x : A) → IsFirstAgain before xs x → ⊥) → (x : A) → Among x before
     → Among x xs → ⊥
 none-before before [] h x b m = elim m [ ]

@@ -2,7 +2,7 @@
 use Rattle.std.specs.Prelude.{◌≡◌, Bool, true, false, List, [], ◌∷◌, ◌++◌, map, flat_map, Option, Some, None, bytes_eq, ◌⊎◌}
 use Rattle.std.proofs.Common.{refl, inl, inr, sym, subst, ◌∙◌}
 use Rattle.std.proofs.lemmas.Slice.Eq.{bytes_eq-Decides}
-use Rattle.digraph.specs.Graphs.{Chain}
+use Rattle.graphs.specs.Graphs.{Chain}
 use Rattle.express_syntax.specs.Schemas.{Schema, Declaration, type, entity, skipped, Entity, Inverse}
 use Rattle.schema_semantics.specs.Names.{Name, Among, IsFirst, listed, entities, supertypes_of, attribute_names, explicit_names, declaration_of, IsEntity, IsEntityAt, IsSubtypeOf, IsKindOf, HasExplicit}
 use Rattle.schema_semantics.specs.Faults.{Demand, an_entity, inverted, IsMet, demands, demands_of_declaration, demands_of_supertype, demands_of_explicit, demands_of_derived, demands_of_inverse, demands_of_holder, holder_of, IsResolved}

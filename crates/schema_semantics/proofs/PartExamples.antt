@@ -13,7 +13,7 @@ use Rattle.schema_semantics.specs.declared.unchecked.PartKind.TheVariants as par
 use Rattle.schema_semantics.specs.declared.unchecked.Reason.{Reason}
 use Rattle.schema_semantics.specs.declared.unchecked.Reason.TheVariants as reasons
 use Rattle.schema_semantics.specs.Names.{Name, IsFirst, IsEntityAt, Renames, DeclaresExplicit, explicit_names}
-use Rattle.schema_semantics.specs.Shapes.{Shape, of_numbers, of_strings, IsShapeAt, HasShape, AreOne, AreAlike, Sort, Atom, an_item}
+use Rattle.schema_semantics.specs.Shapes.{TypeShape, of_numbers, of_strings, IsShapeAt, HasShape, AreOne, AreAlikeTypes, Sort, Atom, an_item}
 use Rattle.schema_semantics.specs.Shapes as shapes
 use Rattle.schema_semantics.specs.Attributes.{Derivation, IsOrigin, DeclaresAs, IsFirstType, HasFirstShape}
 use Rattle.schema_semantics.specs.Sets.{MayTake, attribute_of_self, item, Means, IsItemOf, OfReference, IsUnclearReference, ReferenceMayUse}
@@ -40,18 +40,18 @@ abbrev schema : List Declaration → Schema
 schema ds = record { name = codes "S"; version = None; declarations = ds }
 
 -- numbers and strings have different shapes
-of-integer : (s : Schema) (f : Shape) → HasShape s integer f → f ≡ of_numbers
+of-integer : (s : Schema) (f : TypeShape) → HasShape s integer f → f ≡ of_numbers
 of-integer s f (k, inl e, at) = subst (λ l. IsShapeAt s l f) (sym e) at
 of-integer s f (k, inr way, at) = absurd ((first-step (Renames s) integer k way).1)
 
-of-string : (s : Schema) (f : Shape) → HasShape s (string None) f → f ≡ of_strings
+of-string : (s : Schema) (f : TypeShape) → HasShape s (string None) f → f ≡ of_strings
 of-string s f (k, inl e, at) = subst (λ l. IsShapeAt s l f) (sym e) at
 of-string s f (k, inr way, at) = absurd ((first-step (Renames s) (string None) k way).1)
 
-numbers-are-no-strings : (s : Schema) → AreAlike s integer (string None) → ⊥
+numbers-are-no-strings : (s : Schema) → AreAlikeTypes s integer (string None) → ⊥
 numbers-are-no-strings s (R, related, keeps) = by (keeps integer (string None) related)
   where
-    by : (f g : Shape) × HasShape s integer f × HasShape s (string None) g × AreOne R f g → ⊥
+    by : (f g : TypeShape) × HasShape s integer f × HasShape s (string None) g × AreOne R f g → ⊥
     by (f, g, h, k, one) =
         subst (λ x. AreOne R of_numbers x) (of-string s g k) (subst (λ x. AreOne R x g) (of-integer s f h) one)
 
@@ -132,7 +132,7 @@ other-shape = (A, X, (A, refl, x-is-of-a), unlike)
   where
     unlike : HasFirstShape odd A X (string None) → ⊥
     unlike (first, is, alike) =
-        numbers-are-no-strings odd (subst (λ k. AreAlike odd k (string None)) (sym (type-of-x first is)) alike)
+        numbers-are-no-strings odd (subst (λ k. AreAlikeTypes odd k (string None)) (sym (type-of-x first is)) alike)
 
 odd-lists : AreUnchecked odd (part parts.Width (codes "T") reasons.Profile
     ∷ part parts.Supertype (codes "A") reasons.Profile ∷ part parts.Unique (codes "A.U") reasons.Profile

@@ -3,7 +3,7 @@ use Rattle.std.specs.Prelude.{◌≡◌, Bool, true, false, cond, ◌||◌, List
 use Rattle.std.specs.List.{IsDistinct, AllByRecursion, list_any}
 use Rattle.std.proofs.Common.{refl, inl, inr, ap, sym, subst, ◌∙◌}
 use Rattle.std.proofs.lemmas.Slice.Eq.{bytes_eq-Decides}
-use Rattle.digraph.specs.Graphs.{Chain}
+use Rattle.graphs.specs.Graphs.{Chain}
 use Rattle.express_syntax.specs.Schemas.{Schema}
 use Rattle.schema_semantics.specs.Names.{Name, Among, explicit_names, supertypes_of, IsSubtypeOf, IsKindOf, DeclaresExplicit}
 use Rattle.schema_semantics.specs.Attributes.{Place, same_place, without, once, own_places, ArePlaces, IsPlaces}

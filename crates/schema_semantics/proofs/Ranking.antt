@@ -3,11 +3,11 @@ use Rattle.std.specs.Prelude.{◌≡◌, ℕ, zero, suc, ◌<◌, ◌≤◌, [],
 use Rattle.std.proofs.Common.{inl, inr, subst, sym, arith}
 use Rattle.express_syntax.specs.Schemas.{Schema}
 use Rattle.schema_semantics.specs.Attributes.{Derivation}
-use Rattle.schema_semantics.specs.Ranks.{Uses, IsSetAside, IsRank, AreRanks}
-use Rattle.schema_semantics.specs.Laws.{RanksFall, RanksAreOne}
+use Rattle.schema_semantics.specs.Ranks.{Uses, IsSetAside, IsRank, AreAttributeRanks}
+use Rattle.schema_semantics.specs.Laws.{AttributeRanksFall, RanksAreOne}
 use Rattle.schema_semantics.proofs.Lists.{leads-joined}
 
-pub ranks-fall : RanksFall
+pub ranks-fall : AttributeRanksFall
 ranks-fall s rank d u ranks free uses = (ranks d free).above u uses
 
 -- what one that isn't set aside may use isn't set aside either
@@ -25,7 +25,7 @@ no-more s rank other d r o same = by o.least
         let less : rank u < rank d = r.above u uses in let one : rank u ≡ other u = same u uses in omega arith
 
 -- by the first of the two ranks
-alike : (s : Schema) (rank other : Derivation → ℕ) → AreRanks s rank → AreRanks s other → (k : ℕ) (d : Derivation)
+alike : (s : Schema) (rank other : Derivation → ℕ) → AreAttributeRanks s rank → AreAttributeRanks s other → (k : ℕ) (d : Derivation)
     → (IsSetAside s d → ⊥) → rank d < k → rank d ≡ other d
 alike s rank other r o zero d free h = absurd (omega arith)
 alike s rank other r o (suc k) d free h =

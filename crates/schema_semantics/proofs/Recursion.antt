@@ -127,7 +127,8 @@ equation s make f n e h at =
 abbrev IsOne : {X : Type 0} → Schema → (Name → List X) → (Name → List X) → Name → ℕ → Type 0
 IsOne s f g n k = (f n ≡ g n) ⊎ ((ms : List Name) × (length ms ≡ k) × IsPath s n ms)
 
--- .. of each of some supertypes
+-- If two lists are one, or there is a path, for each of some supertypes, then their joined lists
+-- are one, or there is a path that is one step longer.
 each-one : {X : Type 0} (s : Schema) (f g : Name → List X) (n : Name) (k : ℕ) (ms : List Name)
     → ((m : Name) → Among m ms → IsSubtypeOf s n m) → ((m : Name) → Among m ms → IsOne s f g m k)
     → (flat_map f ms ≡ flat_map g ms) ⊎ ((path : List Name) × (length path ≡ suc k) × IsPath s n path)

@@ -4,7 +4,7 @@ use Rattle.std.proofs.Common.{refl, inl, inr, ap, sym, subst, ◌∙◌}
 use Rattle.std.proofs.lemmas.Slice.Eq.{bytes_eq-Decides}
 use Rattle.express_syntax.specs.Schemas.{Schema, Declaration, type, entity, skipped, Entity}
 use Rattle.schema_semantics.specs.Names.{Name, Among, entities_of, entities, declaration_of, declared_name, is_named, IsEntityAt, IsSubtypeOf, IsBelow, IsKindOf}
-use Rattle.schema_semantics.specs.Faults.{declared_from, declared, in_scope, items_of, Declared}
+use Rattle.schema_semantics.specs.Faults.{declared_from, declared, in_scope, enumerated_items, Declared}
 use Rattle.schema_semantics.specs.Names.{attribute_names}
 use Rattle.schema_semantics.specs.Laws.{KindsAreOrdered, KindsAreApart, SupertypesDecideKinds, OrderDecidesNoKinds}
 use Rattle.schema_semantics.proofs.Lists.{among-right, leads-kept, leads-joined, AreFresh, none-twice, are-fresh, fresh-right}
@@ -73,7 +73,7 @@ declares : (k : ℕ) (ds : List Declaration) (d : Declaration) (n : Name) → Am
 declares k [] d n h named = elim h [ ]
 declares k (type t ∷ ds) d n (inl e) named = let same : t.name ≡ n = cc in inl (ap in_schema same)
 declares k (type t ∷ ds) d n (inr m) named =
-    inr (among-right (in_schema n) (in_scope k (items_of t.underlying)) (declared_from (k + 1) ds)
+    inr (among-right (in_schema n) (in_scope k (enumerated_items t.underlying)) (declared_from (k + 1) ds)
     (declares (k + 1) ds d n m named))
 declares k (entity e ∷ ds) d n (inl f) named = let same : e.name ≡ n = cc in inl (ap in_schema same)
 declares k (entity e ∷ ds) d n (inr m) named =
@@ -105,9 +105,9 @@ pub stands : (k : ℕ) (ds : List Declaration) (d : Declaration) (n : Name) → 
     → declared_name d ≡ Some n → declaration_of ds n ≡ Some d
 stands k [] d n fresh h named = elim h [ ]
 stands k (type t ∷ ds) d n fresh h named =
-    let fresh-on = fresh-right (in_scope k (items_of t.underlying)) (declared_from (k + 1) ds) fresh.1 in
+    let fresh-on = fresh-right (in_scope k (enumerated_items t.underlying)) (declared_from (k + 1) ds) fresh.1 in
     stands-at-front (k + 1) (type t) d t.name n ds refl
-    (λ m. fresh.0 (among-right (in_schema t.name) (in_scope k (items_of t.underlying)) (declared_from (k + 1) ds) m))
+    (λ m. fresh.0 (among-right (in_schema t.name) (in_scope k (enumerated_items t.underlying)) (declared_from (k + 1) ds) m))
     h named (λ m. stands (k + 1) ds d n fresh-on m named) (bytes_eq t.name n) refl
 stands k (entity e ∷ ds) d n fresh h named =
     let fresh-on = fresh-right (in_scope k (attribute_names e)) (declared_from (k + 1) ds) fresh.1 in

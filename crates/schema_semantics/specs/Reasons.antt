@@ -1,7 +1,8 @@
--- Why a rule or a derived attribute isn't checked, by what its expressions may be (ISO 10303-11, 12).
+-- Why a rule or a derived attribute isn't checked, by the types that its expressions may have
+-- (ISO 10303-11, 12).
 use Rattle.std.specs.Prelude.{◌≡◌, ℕ, Bool, true, false, List, [], ◌∷◌, ◌++◌, map, ◌⊎◌}
 use Rattle.step_literals.specs.declared.literal.items.Item.TheVariants.{Code}
-use Rattle.express_lexis.specs.Meanings.{simple_text, characters_of, encoded_text, codes_of}
+use Rattle.express_lexer.specs.Meanings.{simple_text, characters_of, encoded_text, codes_of}
 use Rattle.express_syntax.specs.declared.expression.Function.TheVariants as functions
 use Rattle.express_syntax.specs.declared.expression.Relation.TheVariants as relations
 use Rattle.express_syntax.specs.Trees.{Tree, Trees, Alternatives, Qualifiers, Root, Literal, literal, signed, reference, parenthesized, aggregate, interval, query, call, nvl, negation, conjunction, disjunction, comparison, none, one, finish, another, plain, attribute, group, index, text, codes_of_text}
@@ -11,28 +12,29 @@ use Rattle.schema_semantics.specs.declared.unchecked.Reason.TheVariants as reaso
 use Rattle.schema_semantics.specs.Names.{Name, IsEntity, IsType}
 use Rattle.schema_semantics.specs.Shapes.{value, instance, Sort, a_string, a_binary, an_item, an_aggregate, IsOverSelect}
 use Rattle.schema_semantics.specs.Attributes.{Derivation}
-use Rattle.schema_semantics.specs.Sets.{Set, Empty, Either, Elements, Variable, IsUnclearReference, ReferenceMayUse, May}
+use Rattle.schema_semantics.specs.Sets.{Set, Empty, Either, Elements, QueryVariable, IsUnclearReference, ReferenceMayUse, May}
 
--- the elements of what stands on the right of IN (ISO 10303-11, 12.2.3)
-abbrev pub OfTrees : Schema → Set → List Variable → Trees → Set
+-- The types of these expressions together.
+abbrev pub OfTrees : Schema → Set → List QueryVariable → Trees → Set
 OfTrees s self vs none = Empty
 OfTrees s self vs (one x xs) = Either (May s self vs x) (OfTrees s self vs xs)
 
-abbrev pub ElementsOf : Schema → Set → List Variable → Tree → Set
+-- The types of the elements of the right operand of IN (ISO 10303-11, 12.2.3).
+abbrev pub ElementsOf : Schema → Set → List QueryVariable → Tree → Set
 ElementsOf s self vs (aggregate xs) = OfTrees s self vs xs
 ElementsOf s self vs (parenthesized x) = ElementsOf s self vs x
 ElementsOf s self vs y = Elements s (May s self vs y)
 
--- a variable may be the elements of its source
-abbrev pub bound_to : Schema → Set → List Variable → Name → Tree → Variable
+-- The variable of a QUERY has the types of the elements of its source.
+abbrev pub bound_to : Schema → Set → List QueryVariable → Name → Tree → QueryVariable
 bound_to s self vs v source = record { name = v; may = Elements s (May s self vs source) }
 
--- Some part of a tree is at fault: `Here` says of a part, with the variables around it and whether it stands on the
--- right of IN, that it is; `AtPath` says so of a reference.
-module _ (s : Schema) (self : Set) (Here : Bool → List Variable → Tree → Type 0)
-    (AtPath : List Variable → Root → Qualifiers → Type 0) where
+-- Some part of an expression is at fault. `Here` says so of a part, with the variables around it
+-- and whether it is the right operand of IN. `AtPath` says so of a reference.
+module _ (s : Schema) (self : Set) (Here : Bool → List QueryVariable → Tree → Type 0)
+    (AtPath : List QueryVariable → Root → Qualifiers → Type 0) where
   abbrev mutual
-    pub Somewhere : Bool → List Variable → Tree → Type 0
+    pub Somewhere : Bool → List QueryVariable → Tree → Type 0
     Somewhere w vs (literal l) = Here w vs (literal l)
     Somewhere w vs (signed sign n) = Here w vs (signed sign n)
     Somewhere w vs (reference r qs) = AtPath vs r qs ⊎ InIndices vs qs
@@ -53,69 +55,73 @@ module _ (s : Schema) (self : Set) (Here : Bool → List Variable → Tree → T
     Somewhere w vs (comparison x r y) =
         Here w vs (comparison x r y) ⊎ (Somewhere false vs x ⊎ Somewhere false vs y)
 
-    pub InTrees : List Variable → Trees → Type 0
+    pub InTrees : List QueryVariable → Trees → Type 0
     InTrees vs none = ⊥
     InTrees vs (one x xs) = Somewhere false vs x ⊎ InTrees vs xs
 
-    pub InAlternatives : List Variable → Alternatives → Type 0
+    pub InAlternatives : List QueryVariable → Alternatives → Type 0
     InAlternatives vs finish = ⊥
     InAlternatives vs (another j x xs) = Somewhere false vs x ⊎ InAlternatives vs xs
 
-    pub InIndices : List Variable → Qualifiers → Type 0
+    pub InIndices : List QueryVariable → Qualifiers → Type 0
     InIndices vs plain = ⊥
     InIndices vs (attribute a qs) = InIndices vs qs
     InIndices vs (group e a qs) = InIndices vs qs
     InIndices vs (index i qs) = Somewhere false vs i ⊎ InIndices vs qs
 
-abbrev pub NoTree : Bool → List Variable → Tree → Type 0
+abbrev pub NoTree : Bool → List QueryVariable → Tree → Type 0
 NoTree w vs x = ⊥
 
-abbrev pub NoPath : List Variable → Root → Qualifiers → Type 0
+abbrev pub NoPath : List QueryVariable → Root → Qualifiers → Type 0
 NoPath vs r qs = ⊥
 
--- `[..]` elsewhere than on the right of IN
-abbrev pub IsLooseAggregate : Bool → List Variable → Tree → Type 0
+-- `[..]` that isn't the right operand of IN.
+abbrev pub IsLooseAggregate : Bool → List QueryVariable → Tree → Type 0
 IsLooseAggregate false vs (aggregate xs) = Unit {0}
 IsLooseAggregate w vs x = ⊥
 
--- the string of these characters, plain or encoded (ISO 10303-11, 7.5.5)
+-- The literal is the string of these characters, plain or encoded (ISO 10303-11, 7.5.5).
 abbrev pub IsString : Literal → List ℕ → Type 0
 IsString (text t) cs = (content : List ℕ) × (t ≡ simple_text content) × (characters_of content ≡ map Code cs)
 IsString (codes_of_text t) cs = (digits : List ℕ) × (t ≡ encoded_text digits) × (codes_of digits ≡ map Code cs)
 IsString l cs = ⊥
 
--- `SCHEMA.NAME`, in capitals, in parentheses or not (ISO 10303-11, 15.25)
+-- The expression is the string `SCHEMA.NAME`, in capitals, in parentheses or not
+-- (ISO 10303-11, 15.25).
 abbrev pub SaysName : Schema → Tree → Name → Type 0
 SaysName s (literal l) n = IsString l (s.name ++ 46 ∷ n)
 SaysName s (parenthesized x) n = SaysName s x n
 SaysName s x n = ⊥
 
--- a value that is neither an instance nor of a SELECT
+-- The set has a value that is neither an instance nor of a SELECT.
 abbrev pub HasBareValue : Set → Type 0
 HasBareValue M = (x : Sort) × M (value x false)
 
--- `x IN TYPEOF(y)` has an answer: x names an entity, or a defined type over no SELECT while y tells its type
-abbrev pub IsTypeTest : Schema → Set → List Variable → Tree → Tree → Type 0
+-- `x IN TYPEOF(y)` has a known value. `x` names an entity; or it names a defined type that isn't
+-- over a SELECT, and each value of `y` is an instance or of a SELECT, so that its type is known.
+abbrev pub IsTypeTest : Schema → Set → List QueryVariable → Tree → Tree → Type 0
 IsTypeTest s self vs x y =
     (n : Name) × SaysName s x n
     × (IsEntity s n ⊎ (IsType s n × (IsOverSelect s (named n) → ⊥) × (HasBareValue (May s self vs y) → ⊥)))
 
--- what stands on the right of IN is TYPEOF(y), and x before it makes no test of it
-abbrev pub IsBadTypeTest : Schema → Set → List Variable → Tree → Tree → Type 0
+-- The right operand of IN is `TYPEOF(y)`, and `x IN TYPEOF(y)` has no known value.
+abbrev pub IsBadTypeTest : Schema → Set → List QueryVariable → Tree → Tree → Type 0
 IsBadTypeTest s self vs x (call functions.Typeof y) = IsTypeTest s self vs x y → ⊥
 IsBadTypeTest s self vs x (parenthesized y) = IsBadTypeTest s self vs x y
 IsBadTypeTest s self vs x y = ⊥
 
-abbrev pub IsBadTypeof : Schema → Set → Bool → List Variable → Tree → Type 0
+-- TYPEOF isn't the right operand of IN, or the value of `x IN TYPEOF(y)` isn't known.
+abbrev pub IsBadTypeof : Schema → Set → Bool → List QueryVariable → Tree → Type 0
 IsBadTypeof s self false vs (call functions.Typeof x) = Unit {0}
 IsBadTypeof s self w vs (comparison x relations.In y) = IsBadTypeTest s self vs x y
 IsBadTypeof s self w vs x = ⊥
 
--- instances or aggregates, which aren't compared by value (ISO 10303-11, 12.2.1 and 12.2.2)
+-- The set has instances or aggregates, which aren't compared by value (ISO 10303-11, 12.2.1 and
+-- 12.2.2).
 abbrev pub MayBeDeep : Set → Type 0
 MayBeDeep M = ((e : Name) × M (instance e)) ⊎ ((k : DataType) × (w : Bool) × M (value (an_aggregate k) w))
 
--- strings, binaries and items, which aren't ordered
+-- The sort is that of strings, binaries or items of enumerations, which aren't ordered.
 abbrev pub IsUnordered : Sort → Type 0
 IsUnordered a_string = Unit {0}
 IsUnordered a_binary = Unit {0}
@@ -128,7 +134,9 @@ MayBeUnordered M = (x : Sort) × (w : Bool) × IsUnordered x × M (value x w)
 abbrev pub BothDeep : Set → Set → Type 0
 BothDeep M N = MayBeDeep M × MayBeDeep N
 
-abbrev pub IsBadKind : Schema → Set → Bool → List Variable → Tree → Type 0
+-- The operator compares two values that may be instances or aggregates, or orders values that may
+-- have no order.
+abbrev pub IsBadKind : Schema → Set → Bool → List QueryVariable → Tree → Type 0
 IsBadKind s self w vs (comparison x relations.Equal y) = BothDeep (May s self vs x) (May s self vs y)
 IsBadKind s self w vs (comparison x relations.NotEqual y) = BothDeep (May s self vs x) (May s self vs y)
 IsBadKind s self w vs (comparison x relations.In y) = BothDeep (May s self vs x) (ElementsOf s self vs y)
@@ -149,12 +157,12 @@ HasBadTypeof s self x = Somewhere s self (IsBadTypeof s self) NoPath false [] x
 abbrev pub HasBadKind : Schema → Set → Tree → Type 0
 HasBadKind s self x = Somewhere s self (IsBadKind s self) NoPath false [] x
 
--- a derived attribute that the value of a body may be asked of
+-- The value of the body may depend on this derived attribute.
 abbrev pub BodyMayUse : Schema → Set → Body → Derivation → Type 0
 BodyMayUse s self (parsed x) d = Somewhere s self NoTree (ReferenceMayUse s self d) false [] x
 BodyMayUse s self (set_aside r) d = ⊥
 
--- the reasons that a body gives by itself
+-- The body itself gives this reason not to be checked.
 abbrev pub GivesReason : Schema → Set → Body → Reason → Type 0
 GivesReason s self (set_aside r) reasons.Profile = Unit {0}
 GivesReason s self (parsed x) reasons.Profile = HasLooseAggregate s self x

@@ -1,4 +1,4 @@
--- What an expression may be: a set of types (ISO 10303-11, 12).
+-- The types that an expression may have, as a set (ISO 10303-11, 12).
 use Rattle.std.specs.Prelude.{◌≡◌, ◌≢◌, Bool, false, List, [], ◌∷◌, ◌⊎◌}
 use Rattle.express_syntax.specs.declared.expression.Function.{Function}
 use Rattle.express_syntax.specs.declared.expression.Function.TheVariants as functions
@@ -19,21 +19,21 @@ Empty x = ⊥
 abbrev pub Either : Set → Set → Set
 Either M N x = M x ⊎ N x
 
--- values of this sort, of no SELECT
+-- The values of this sort that are of no SELECT.
 abbrev pub Only : Sort → Set
 Only t x = x ≡ value t false
 
--- the elements of the aggregates of a set
+-- The elements of the aggregates in a set.
 abbrev pub Elements : Schema → Set → Set
 Elements s M x = (k : DataType) × (w : Bool) × M (value (an_aggregate k) w) × IsOf s k x
 
--- the entities of a set and their subtypes
+-- The entities in a set, and their subtypes.
 abbrev pub WithSubtypes : Schema → Set → Set
 WithSubtypes s M (value x w) = ⊥
 WithSubtypes s M (instance n) = (e : Name) × M (instance e) × IsKindOf s n e
 
--- The attribute of this name: of the entities of a set, or of one entity as in `\entity.attribute`
--- (ISO 10303-11, 12.7.3 and 12.7.4).
+-- A reference to the attribute with this name: of the entities in a set, or of one entity as in
+-- `\entity.attribute` (ISO 10303-11, 12.7.3 and 12.7.4).
 pub data AttributeReference : Type 1 where
   of_set : Set → Name → AttributeReference
   of_entity : Name → Name → AttributeReference
@@ -42,68 +42,71 @@ abbrev pub attribute_name : AttributeReference → Name
 attribute_name (of_set M a) = a
 attribute_name (of_entity e a) = a
 
--- It may take the attribute that p declares: one that an entity of the set has; the entity's own, else the only one
--- that it inherits.
+-- The reference may mean the attribute that `p` declares. For a set, an entity in it has this
+-- attribute. For one entity it is its own attribute, otherwise the only one that it inherits.
 abbrev pub MayTake : Schema → AttributeReference → Name → Type 0
 MayTake s (of_set M a) p = (e : Name) × M (instance e) × Has s e p a
 MayTake s (of_entity e a) p =
     IsEntity s e × Has s e p a × ((p ≡ e) ⊎ ((q : Name) → Has s e q a → q ≡ p))
 
--- an entity of the set has two attributes of the name
+-- An entity in the set has two attributes with this name.
 abbrev pub TakesTwo : Schema → AttributeReference → Type 0
 TakesTwo s (of_set M a) =
     (e : Name) × (p : Name) × (q : Name) × M (instance e) × Has s e p a × Has s e q a × (p ≢ q)
 TakesTwo s (of_entity e a) = ⊥
 
--- it takes no attribute, or two of one entity
+-- The reference means no attribute, or two of one entity.
 abbrev pub IsUnclear : Schema → AttributeReference → Type 0
 IsUnclear s q = ((p : Name) → MayTake s q p → ⊥) ⊎ TakesTwo s q
 
--- a derived attribute gives what it takes its value
+-- The derived attribute gives its value to an attribute that the reference may mean.
 abbrev pub MayUse : Schema → Derivation → AttributeReference → Type 0
 MayUse s d q = (p : Name) × MayTake s q p × Derives s p (attribute_name q) d
 
--- what it takes may be
+-- The types of the attributes that the reference may mean.
 abbrev pub OfTaken : Schema → AttributeReference → Set
 OfTaken s q x = (p : Name) × (k : DataType) × MayTake s q p × MayHaveType s p (attribute_name q) k × IsOf s k x
 
--- the attributes that a reference goes through, and what it may be in the end
+-- The attribute references that a reference goes through, and the types that it may have in the
+-- end.
 pub record Path : Type 1 where
   pub attributes : List AttributeReference
   pub may : Set
 
-abbrev pub with_attribute : AttributeReference → Path → Path
-with_attribute q t = record { attributes = q ∷ t.attributes; may = t.may }
+abbrev pub path_with_attribute : AttributeReference → Path → Path
+path_with_attribute q t = record { attributes = q ∷ t.attributes; may = t.may }
 
--- The path of qualifiers behind a set. An attribute is taken of subtypes too; an index takes the elements
--- (ISO 10303-11, 12.6.1 and 12.7).
+-- The path of the qualifiers after an expression whose types are a set. `.attribute` applies to
+-- subtypes too, and an index takes the elements (ISO 10303-11, 12.6.1 and 12.7).
 abbrev pub path_behind : Schema → Set → Qualifiers → Path
 path_behind s M plain = record { attributes = []; may = M }
 path_behind s M (attribute a qs) =
-    with_attribute (of_set (WithSubtypes s M) a) (path_behind s (OfTaken s (of_set (WithSubtypes s M) a)) qs)
-path_behind s M (group e a qs) = with_attribute (of_entity e a) (path_behind s (OfTaken s (of_entity e a)) qs)
+    path_with_attribute (of_set (WithSubtypes s M) a) (path_behind s (OfTaken s (of_set (WithSubtypes s M) a)) qs)
+path_behind s M (group e a qs) = path_with_attribute (of_entity e a) (path_behind s (OfTaken s (of_entity e a)) qs)
 path_behind s M (index i qs) = path_behind s (Elements s M) qs
 
--- the variable of a QUERY, and what it may be (ISO 10303-11, 12.6.7)
-pub record Variable : Type 1 where
+-- A variable of a QUERY, with the types that it may have (ISO 10303-11, 12.6.7).
+pub record QueryVariable : Type 1 where
   pub name : Name
   pub may : Set
 
--- the innermost variable stands first
-abbrev pub IsVariable : List Variable → Name → Type 0
+-- `n` is the name of a variable. Lists of variables begin with the innermost one.
+abbrev pub IsVariable : List QueryVariable → Name → Type 0
 IsVariable [] n = ⊥
 IsVariable (v ∷ vs) n = (v.name ≡ n) ⊎ IsVariable vs n
 
-abbrev pub OfVariable : List Variable → Name → Set
+-- The types of the innermost variable with this name.
+abbrev pub OfVariable : List QueryVariable → Name → Set
 OfVariable [] n x = ⊥
 OfVariable (v ∷ vs) n x = ((v.name ≡ n) × v.may x) ⊎ ((v.name ≢ n) × OfVariable vs n x)
 
--- n is an item of the enumeration that t is, under whatever names (ISO 10303-11, 8.4.1)
+-- `n` is an item of the enumeration for which `t` stands, through any names (ISO 10303-11, 8.4.1).
 abbrev pub IsItemOf : Schema → Name → Name → Type 0
 IsItemOf s t n =
     (e : Name) × (items : List Name) × IsOrLeads (Renames s) (schemas.named t) (schemas.named e)
     × StandsFor s e (enumeration items) × Among n items
 
+-- The types of a literal.
 abbrev pub OfLiteral : Literal → Set
 OfLiteral (number t) = Only a_number
 OfLiteral (text t) = Only a_string
@@ -112,7 +115,7 @@ OfLiteral (bits t) = Only a_binary
 OfLiteral (constant l) = Only a_logical
 OfLiteral indeterminate = Empty
 
--- what may begin a reference
+-- What the beginning of a reference means.
 pub data Meaning : Type 0 where
   -- SELF
   itself : Meaning
@@ -122,10 +125,10 @@ pub data Meaning : Type 0 where
   item_of_type : Meaning
   item : Meaning
 
--- With the set of SELF and the variables around it. A bare name is a variable, else `SELF.name`, also where a subtype
--- alone has such an attribute, else the type of `type.item`, else an item of an enumeration (ISO 10303-11, 10.2 and
--- 12.7.1).
-abbrev pub MayMean : Schema → Set → List Variable → Root → Qualifiers → Meaning → Type 0
+-- A meaning that a reference may have; `self` are the types of SELF, `vs` the variables around the
+-- reference. A bare name is a variable, an attribute of SELF (also if only a subtype has it), the
+-- type in `type.item`, or an item of an enumeration (ISO 10303-11, 10.2 and 12.7.1).
+abbrev pub MayMean : Schema → Set → List QueryVariable → Root → Qualifiers → Meaning → Type 0
 MayMean s self vs trees.own qs itself = Unit {0}
 MayMean s self vs (trees.named n) qs variable = IsVariable vs n
 MayMean s self vs (trees.named n) qs attribute_of_self = (p : Name) × MayTake s (of_set (WithSubtypes s self) n) p
@@ -133,14 +136,14 @@ MayMean s self vs (trees.named n) (attribute i qs) item_of_type = IsItemOf s n i
 MayMean s self vs (trees.named n) qs item = (t : Name) × IsItemOf s t n
 MayMean s self vs r qs m = ⊥
 
--- the first of these, in this order
-abbrev pub Means : Schema → Set → List Variable → Root → Qualifiers → Meaning → Type 0
+-- The meaning of a reference: the first possible one, in this order.
+abbrev pub Means : Schema → Set → List QueryVariable → Root → Qualifiers → Meaning → Type 0
 Means s self vs r qs m =
     IsFirst (MayMean s self vs r qs) (itself ∷ variable ∷ attribute_of_self ∷ item_of_type ∷ item ∷ []) m
 
--- The path of a reference with this meaning. That of an attribute of SELF is the one of `SELF.name`; the first qualifier
--- of `type.item` belongs to its meaning.
-abbrev pub path : Schema → Set → List Variable → Root → Qualifiers → Meaning → Path
+-- The path of a reference with this meaning. For an attribute of SELF it is that of `SELF.name`.
+-- The first qualifier of `type.item` belongs to its meaning.
+abbrev pub path : Schema → Set → List QueryVariable → Root → Qualifiers → Meaning → Path
 path s self vs trees.own qs itself = path_behind s self qs
 path s self vs (trees.named n) qs variable = path_behind s (OfVariable vs n) qs
 path s self vs (trees.named n) qs attribute_of_self = path_behind s self (attribute n qs)
@@ -148,22 +151,23 @@ path s self vs (trees.named n) (attribute i qs) item_of_type = path_behind s (On
 path s self vs (trees.named n) qs item = path_behind s (Only an_item) qs
 path s self vs r qs m = record { attributes = []; may = Empty }
 
--- what a reference may be
-abbrev pub OfReference : Schema → Set → List Variable → Root → Qualifiers → Set
+-- The types of a reference.
+abbrev pub OfReference : Schema → Set → List QueryVariable → Root → Qualifiers → Set
 OfReference s self vs r qs x = (m : Meaning) × Means s self vs r qs m × (path s self vs r qs m).may x
 
--- it means nothing, or a name in it is unclear
-abbrev pub IsUnclearReference : Schema → Set → List Variable → Root → Qualifiers → Type 0
+-- The reference means nothing, or a name in it is unclear.
+abbrev pub IsUnclearReference : Schema → Set → List QueryVariable → Root → Qualifiers → Type 0
 IsUnclearReference s self vs r qs =
     ((m : Meaning) → MayMean s self vs r qs m → ⊥)
     ⊎ ((m : Meaning) × Means s self vs r qs m × OneOf (IsUnclear s) (path s self vs r qs m).attributes)
 
--- its value may be asked of a derived attribute
-abbrev pub ReferenceMayUse : Schema → Set → Derivation → List Variable → Root → Qualifiers → Type 0
+-- The value of the reference may depend on the derived attribute.
+abbrev pub ReferenceMayUse : Schema → Set → Derivation → List QueryVariable → Root → Qualifiers → Type 0
 ReferenceMayUse s self d vs r qs =
     (m : Meaning) × Means s self vs r qs m × OneOf (MayUse s d) (path s self vs r qs m).attributes
 
--- (ISO 10303-11, 15); TYPEOF has a value only where it stands behind IN
+-- The types of a call of a built-in function (ISO 10303-11, 15). TYPEOF has a value only as the
+-- right operand of IN.
 abbrev pub OfCall : Function → Set
 OfCall functions.Exists = Only a_logical
 OfCall functions.Sizeof = Only a_number
@@ -171,14 +175,15 @@ OfCall functions.Hiindex = Only a_number
 OfCall functions.Loindex = Only a_number
 OfCall functions.Typeof = Empty
 
--- The aggregates of a set, as a QUERY makes them anew: of no SELECT (ISO 10303-11, 12.6.7). What may be no aggregate may be
--- nothing then.
+-- The aggregates in a set, as a QUERY makes them anew, so that they are of no SELECT
+-- (ISO 10303-11, 12.6.7). If the set has no aggregates, there are none.
 abbrev pub Aggregates : Set → Set
 Aggregates M (value (an_aggregate k) false) = (w : Bool) × M (value (an_aggregate k) w)
 Aggregates M x = ⊥
 
--- what a tree may be, with the set of SELF and the variables around it
-abbrev pub May : Schema → Set → List Variable → Tree → Set
+-- The types that an expression may have; `self` are the types of SELF, `vs` the variables around
+-- the expression.
+abbrev pub May : Schema → Set → List QueryVariable → Tree → Set
 May s self vs (literal l) = OfLiteral l
 May s self vs (signed sign n) = Only a_number
 May s self vs (reference r qs) = OfReference s self vs r qs

@@ -1,4 +1,5 @@
--- What a data type is behind the names of defined types: what its values may be, and its shape (ISO 10303-11, 8).
+-- What a data type is when the names of defined types are resolved: the types of its values, and
+-- its shape (ISO 10303-11, 8).
 use Rattle.std.specs.Prelude.{◌≡◌, Bool, true, false, List, ◌⊎◌}
 use Rattle.express_syntax.specs.Schemas.{Schema, enumeration, select, DataType, integer, number, boolean, logical, real, string, binary, named, array, list, bag, set}
 use Rattle.schema_semantics.specs.Names.{Name, IsOrLeads, IsEntity, StandsFor, Renames, IsMadeOf}
@@ -9,28 +10,28 @@ IsEnumeration s n = (items : List Name) × StandsFor s n (enumeration items)
 abbrev pub IsSelect : Schema → Name → Type 0
 IsSelect s n = (items : List Name) × StandsFor s n (select items)
 
--- a SELECT, or a defined type that stands for one, under whatever names
+-- The data type is a SELECT, or a defined type that stands for one through any names.
 abbrev pub IsOverSelect : Schema → DataType → Type 0
 IsOverSelect s k = (n : Name) × IsOrLeads (Renames s) k (named n) × IsSelect s n
 
--- the sorts of values that aren't instances
+-- The sorts of values that aren't instances.
 pub data Sort : Type 0 where
   a_number : Sort
   a_logical : Sort
   a_string : Sort
   a_binary : Sort
-  -- an item of an enumeration
+  -- An item of an enumeration.
   an_item : Sort
-  -- .. of elements of this data type
+  -- An aggregate of elements of this data type.
   an_aggregate : DataType → Sort
 
--- A member of the sets that say what an expression may be: a sort, with whether it is of a SELECT; or the instances
--- of an entity and its subtypes.
+-- An element of the sets of types that an expression may have: a sort, with whether the value is of
+-- a SELECT; or the instances of an entity and its subtypes.
 pub data Atom : Type 0 where
   value : Sort → Bool → Atom
   instance : Name → Atom
 
--- the sort of a data type that opens no further
+-- The sort of a data type, which isn't the name of another data type or of a SELECT.
 abbrev pub IsSort : Schema → DataType → Sort → Type 0
 IsSort s integer x = x ≡ a_number
 IsSort s number x = x ≡ a_number
@@ -45,27 +46,28 @@ IsSort s (bag b k) x = x ≡ an_aggregate k
 IsSort s (set b k) x = x ≡ an_aggregate k
 IsSort s (named n) x = IsEnumeration s n × (x ≡ an_item)
 
--- what a value of a data type may be: SELECTs are replaced by their items (ISO 10303-11, 8.4.2)
+-- The types of the values of a data type: SELECTs are replaced by their items
+-- (ISO 10303-11, 8.4.2).
 abbrev pub IsOf : Schema → DataType → Atom → Type 0
 IsOf s k (value x false) = (l : DataType) × IsOrLeads (Renames s) k l × IsSort s l x
 IsOf s k (value x true) = IsOverSelect s k × ((l : DataType) × IsOrLeads (IsMadeOf s) k l × IsSort s l x)
 IsOf s k (instance n) = IsOrLeads (IsMadeOf s) k (named n) × IsEntity s n
 
--- The shape of a data type, one level deep: one for numbers, one for logicals, one for SELECTs and entities, one
--- for SET and BAG.
-pub data Shape : Type 0 where
-  of_numbers : Shape
-  of_logicals : Shape
-  of_strings : Shape
-  of_binaries : Shape
-  of_items : Shape
-  of_instances : Shape
-  -- .. of elements of this data type
-  of_arrays : DataType → Shape
-  of_lists : DataType → Shape
-  of_collections : DataType → Shape
+-- The shape of a data type, one level deep. All numbers have one shape, and so have BOOLEAN and
+-- LOGICAL, SELECTs and entities, and SET and BAG.
+pub data TypeShape : Type 0 where
+  of_numbers : TypeShape
+  of_logicals : TypeShape
+  of_strings : TypeShape
+  of_binaries : TypeShape
+  of_items : TypeShape
+  of_instances : TypeShape
+  -- An ARRAY, LIST, or SET or BAG, of elements of this data type.
+  of_arrays : DataType → TypeShape
+  of_lists : DataType → TypeShape
+  of_collections : DataType → TypeShape
 
-abbrev pub IsShapeAt : Schema → DataType → Shape → Type 0
+abbrev pub IsShapeAt : Schema → DataType → TypeShape → Type 0
 IsShapeAt s integer f = f ≡ of_numbers
 IsShapeAt s number f = f ≡ of_numbers
 IsShapeAt s (real w) f = f ≡ of_numbers
@@ -80,12 +82,12 @@ IsShapeAt s (set b k) f = f ≡ of_collections k
 IsShapeAt s (named n) f =
     (IsEnumeration s n × (f ≡ of_items)) ⊎ ((IsEntity s n ⊎ IsSelect s n) × (f ≡ of_instances))
 
--- its shape, defined types followed
-abbrev pub HasShape : Schema → DataType → Shape → Type 0
+-- The shape of a data type, with the names of defined types resolved.
+abbrev pub HasShape : Schema → DataType → TypeShape → Type 0
 HasShape s k f = (l : DataType) × IsOrLeads (Renames s) k l × IsShapeAt s l f
 
--- two shapes are one, with elements that R relates
-abbrev pub AreOne : (DataType → DataType → Bool) → Shape → Shape → Type 0
+-- Two shapes are the same, with element types that `R` relates.
+abbrev pub AreOne : (DataType → DataType → Bool) → TypeShape → TypeShape → Type 0
 AreOne R of_numbers of_numbers = Unit {0}
 AreOne R of_logicals of_logicals = Unit {0}
 AreOne R of_strings of_strings = Unit {0}
@@ -97,12 +99,12 @@ AreOne R (of_lists k) (of_lists l) = R k l ≡ true
 AreOne R (of_collections k) (of_collections l) = R k l ≡ true
 AreOne R f g = ⊥
 
--- a relation keeps shapes: data types that it relates have one shape
+-- The relation keeps shapes: data types that it relates have the same shape.
 abbrev pub KeepsShapes : Schema → (DataType → DataType → Bool) → Type 0
 KeepsShapes s R =
-    (k l : DataType) → R k l ≡ true → (f g : Shape) × HasShape s k f × HasShape s l g × AreOne R f g
+    (k l : DataType) → R k l ≡ true → (f g : TypeShape) × HasShape s k f × HasShape s l g × AreOne R f g
 
--- Two data types are alike in the greatest relation that keeps shapes: some relation that keeps them relates the
--- two. So a pair that comes again inside its own comparison counts as alike.
-abbrev pub AreAlike : Schema → DataType → DataType → Type 0
-AreAlike s k l = (R : DataType → DataType → Bool) × (R k l ≡ true) × KeepsShapes s R
+-- Two data types are alike if some relation that keeps shapes relates them. So a pair that comes
+-- again within its own comparison counts as alike.
+abbrev pub AreAlikeTypes : Schema → DataType → DataType → Type 0
+AreAlikeTypes s k l = (R : DataType → DataType → Bool) × (R k l ≡ true) × KeepsShapes s R

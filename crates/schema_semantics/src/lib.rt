@@ -1,5 +1,5 @@
-//! The types of a schema (ISO 10303-11): who is a kind of whom, where attributes stand, what isn't
-//! checked, and the laws of that.
+//! The meaning of a schema's types (ISO 10303-11): subtypes, attributes, the parts that aren't
+//! checked, and the laws of these.
 #![tactic(auto)]
 
 pub mod laws;

@@ -1,6 +1,6 @@
 //! The parts of a schema that are read and aren't checked.
 
-/// What a part is, by the word that begins it or by what it limits.
+/// The kind of a part: the keyword that begins it, or what it limits.
 #[derive(Clone, Copy, Debug, PartialEq, Eq)]
 pub enum PartKind {
     Function,
@@ -12,28 +12,28 @@ pub enum PartKind {
     Derive,
     Inverse,
     Unique,
-    /// Of an aggregate.
+    /// A bound of an aggregate.
     Bound,
-    /// Of a string or a binary, or the precision of a REAL.
+    /// The width of a string or a binary, or the precision of a REAL.
     Width,
     Supertype,
     /// An explicit attribute that is redeclared with another shape.
     Redeclared,
 }
 
-/// Why a part isn't checked; the first reason that holds is given.
+/// Why a part isn't checked. The first reason that holds is reported.
 #[derive(Clone, Copy, Debug, PartialEq, Eq)]
 pub enum Reason {
     /// Such a declaration is skipped.
     Skipped,
-    /// It is outside what is checked of the language.
+    /// It is outside the part of the language that is checked.
     Profile,
     /// A name means nothing, or two attributes.
     Name,
-    /// TYPEOF stands elsewhere than behind IN, or its answer isn't known.
+    /// TYPEOF isn't the right operand of IN, or its value isn't known.
     Typeof,
-    /// It compares what isn't compared.
+    /// It compares values that aren't compared.
     Kind,
-    /// A derived attribute that it may use isn't checked, or leads to itself.
+    /// It may use a derived attribute that isn't checked, or that may use itself.
     Leads,
 }

@@ -5,18 +5,18 @@ use Rattle.std.proofs.lemmas.Bool.Decides.{nat_tests}
 use Rattle.std.proofs.lemmas.List.{length-map}
 use Rattle.std.specs.List.{IsDistinct, list_any}
 use Rattle.std.specs.Prelude.{eqb}
-use Rattle.digraph.specs.Graphs.{Graph, graph_of, has, next}
-use Rattle.digraph.proofs.RowLists.{row-is}
+use Rattle.graphs.specs.Graphs.{Graph, graph_of, has, next}
+use Rattle.graphs.proofs.RowLists.{row-is}
 use Rattle.express_syntax.specs.Schemas.{Schema}
 use Rattle.schema_semantics.specs.Names.{IsBelow, IsKindOf}
-use Rattle.digraph.specs.Closures.{IsClosure}
+use Rattle.graphs.specs.Closures.{IsClosure}
 use Rattle.schema_names.specs.Edges.{IsGraphOf, supertypes_in}
 use Rattle.schema_names.specs.Numbers.{number_of, HasNumber, AreAt}
 use Rattle.schema_names.proofs.Numbers.{one-name}
 use Rattle.schema_names.proofs.Edges.{below-forth, below-back}
-use Rattle.schema_places.specs.Places.{all_places, HavePlaces}
-use Rattle.schema_places.specs.Above.{AreAbove}
-use Rattle.schema_types.specs.Graphs.{AreSupers, IsKind, ArePlacesOf}
+use Rattle.schema_explicit_attributes.specs.Places.{all_places, HavePlaces}
+use Rattle.schema_explicit_attributes.specs.Supertypes.{AreAbove}
+use Rattle.schema_types.specs.steps.Graphs.{AreSupers, IsKind, ArePlacesOf}
 
 pub supers-are : (s : Schema) (rows : Graph) (i : ℕ) (row : List ℕ) → row ≡ next rows i → AreAbove s rows
     → AreSupers s i row

@@ -1,3 +1,3 @@
-pub mod Graphs
-pub mod Resolving
-pub mod Made
+pub mod Resolution
+pub mod TypeTables
+pub mod steps

@@ -1,7 +1,7 @@
-//! The types of a schema whose names are resolved (ISO 10303-11, 8, 9 and 10): who is a kind of
-//! whom, and where the attributes of each entity stand.
+//! The types of a schema whose names are resolved (ISO 10303-11, 8, 9 and 10): the supertypes of
+//! each entity, and the explicit attributes of its instances.
 #![tactic(auto)]
 
-mod making;
-pub mod resolving;
+pub mod resolution;
+mod type_tables;
 pub mod types;

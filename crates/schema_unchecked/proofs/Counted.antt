@@ -3,8 +3,8 @@ use Rattle.std.specs.Prelude.{◌≡◌, ℕ, ◌+◌, ◌<◌, List, [], ◌∷
 use Rattle.std.proofs.Common.{refl, ap, sym, subst, ◌∙◌, append-nil, append_assoc, arith}
 use Rattle.std.proofs.lemmas.List.{take_more, map-append, length-take, length-map}
 use Rattle.schema_semantics.specs.Parts.{Unchecked, Candidate}
-use Rattle.schema_parts.specs.Adding.{Adds}
-use Rattle.schema_parts.proofs.Joining.{adds-joined}
+use Rattle.schema_unchecked_declarations.specs.UncheckedLists.{Adds}
+use Rattle.schema_unchecked_declarations.proofs.Joining.{adds-joined}
 
 -- `parts` gives the candidates of items from the n-th on
 module _ {A V : Type 0} (seen : A → V) (parts : ℕ → List V → List Candidate) (none : (n : ℕ) → parts n [] ≡ [])

@@ -14,7 +14,7 @@ use Rattle.schema_semantics.specs.Attributes.{Derivation, IsNth, IsDerivation}
 use Rattle.schema_names.specs.Numbers.{IsAt}
 use Rattle.schema_names.proofs.Clauses.{clause-listed}
 use Rattle.schema_attributes.specs.Derivations.{derivations_from, derivations_in, all_derivations, HasDerivation}
-use Rattle.schema_unchecked.specs.Places.{derivations_before, AreDerivationsFrom}
+use Rattle.schema_unchecked.specs.steps.Places.{derivations_before, AreDerivationsFrom}
 
 -- behind a list stands another
 behind : {A : Type 0} (xs ys : List A) (i n : ℕ) → n ≡ length xs + i → slice_get (xs ++ ys) n ≡ slice_get ys i

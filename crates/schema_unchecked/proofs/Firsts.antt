@@ -13,13 +13,13 @@ use Rattle.schema_semantics.specs.Reasons.{GivesReason, HasLooseAggregate, HasUn
 use Rattle.schema_semantics.specs.Ranks.{IsSetAside, HasReason}
 use Rattle.schema_semantics.specs.Parts.{all_reasons}
 use Rattle.schema_attributes.specs.Derivations.{all_derivations, HoldsDerivation}
-use Rattle.schema_derivations.specs.Ranking.{AreRanksOf}
-use Rattle.schema_derivations.proofs.Ranked.{below-end, something-at}
-use Rattle.schema_surveys.specs.declared.survey.Survey.{Survey}
-use Rattle.schema_surveys.specs.Surveys.{IsSurvey}
+use Rattle.schema_derived_attributes.specs.AttributeRanks.{AreRanksOf}
+use Rattle.schema_derived_attributes.proofs.Ranked.{below-end, something-at}
+use Rattle.schema_expression_analysis.specs.declared.survey.Survey.{Survey}
+use Rattle.schema_expression_analysis.specs.steps.Surveys.{IsSurvey}
 use Rattle.schema_unchecked.specs.declared.judgement.Judgement.{Judgement}
-use Rattle.schema_unchecked.specs.Judging.{IsFirstReason, IsJudged, IsReasonFor}
-use Rattle.schema_unchecked.specs.Surveyed.{first_found, is_aside, has_no_rank, or_leads, reason_with}
+use Rattle.schema_unchecked.specs.steps.Judging.{IsFirstReason, IsJudged, IsReasonFor}
+use Rattle.schema_unchecked.specs.steps.Surveyed.{first_found, is_aside, has_no_rank, or_leads, reason_with}
 
 module _ (s : Schema) (self : Set) where
   -- by itself

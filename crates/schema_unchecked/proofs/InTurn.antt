@@ -10,15 +10,15 @@ use Rattle.schema_semantics.specs.Ranks.{Self}
 use Rattle.schema_names.specs.Numbers.{HasNumber, IsAt}
 use Rattle.schema_names.proofs.Numbers.{stands-at}
 use Rattle.schema_names.proofs.Rows.{take-more, flat-joined}
-use Rattle.schema_places.proofs.OwnNumbers.{own-number-of}
+use Rattle.schema_explicit_attributes.proofs.OwnNumbers.{own-number-of}
 use Rattle.schema_data_types.specs.declared.values.Atom.TheVariants as atoms
-use Rattle.schema_data_types.specs.Values.{Holds}
+use Rattle.schema_data_types.specs.steps.Values.{Holds}
 use Rattle.schema_attributes.specs.Derivations.{derivations_in, all_derivations}
-use Rattle.schema_derivations.specs.Asked.{deriveds_in}
-use Rattle.schema_derivations.proofs.Numbering.{from-at}
+use Rattle.schema_derived_attributes.specs.steps.Asked.{deriveds_in}
+use Rattle.schema_derived_attributes.proofs.Numbering.{from-at}
 use Rattle.schema_unchecked.specs.declared.judgement.Judgement.{Judgement}
-use Rattle.schema_unchecked.specs.Judging.{IsJudged, AreJudged}
-use Rattle.schema_unchecked.specs.Growing.{IsJudgedAt, AreJudgedInTurn, AddsJudged}
+use Rattle.schema_unchecked.specs.steps.Judging.{IsJudged, AreJudged}
+use Rattle.schema_unchecked.specs.steps.Growing.{IsJudgedAt, AreJudgedInTurn, AddsJudged}
 use Rattle.schema_unchecked.proofs.Selves.{self-is, judged-same}
 
 module _ (s : Schema) where

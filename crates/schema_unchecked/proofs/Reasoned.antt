@@ -3,10 +3,10 @@ use Rattle.std.specs.Prelude.{◌≡◌, List, [], ◌∷◌, ◌++◌, Option, 
 use Rattle.std.proofs.Common.{sym, subst, ◌∙◌, append-nil}
 use Rattle.schema_semantics.specs.declared.unchecked.Reason.{Reason}
 use Rattle.schema_semantics.specs.Parts.{Unchecked, Candidate}
-use Rattle.schema_unchecked.specs.Judging.{IsFirstReason}
-use Rattle.schema_parts.specs.Adding.{Adds}
-use Rattle.schema_parts.proofs.Joining.{adds-one, adds-nothing}
-use Rattle.schema_unchecked.specs.Listing.{given}
+use Rattle.schema_unchecked.specs.steps.Judging.{IsFirstReason}
+use Rattle.schema_unchecked_declarations.specs.UncheckedLists.{Adds}
+use Rattle.schema_unchecked_declarations.proofs.Joining.{adds-one, adds-nothing}
+use Rattle.schema_unchecked.specs.steps.Listing.{given}
 
 pub adds-given : (c : Candidate) (o : Option Reason) (old new : List Unchecked) → IsFirstReason c.has_reason o
     → new ≡ old ++ given c.kind c.name o → Adds (c ∷ []) old new

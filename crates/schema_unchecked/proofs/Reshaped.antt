@@ -13,16 +13,16 @@ use Rattle.schema_semantics.specs.Attributes.{HasFirstShape}
 use Rattle.schema_semantics.specs.Ranks.{derived_name}
 use Rattle.schema_semantics.specs.Parts.{HasOtherShape}
 use Rattle.schema_semantics.proofs.Lists.{among-map, every-at}
-use Rattle.schema_names.specs.Numbers.{HasNumber, IsAt, AreAt, AreRowsOf}
+use Rattle.schema_names.specs.Numbers.{HasNumber, IsAt, AreAt, AreNumberRowsOf}
 use Rattle.schema_names.proofs.Items.{stays, front-at, back-at, row-at, mapped-at}
 use Rattle.schema_names.proofs.Edges.{within}
-use Rattle.schema_places.proofs.Distinct.{at-among}
-use Rattle.schema_data_types.specs.Numbered.{whole_types, all_data_types, attribute_types, explicit_types, derived_types, inverse_types}
-use Rattle.schema_data_types.specs.Shaped.{IsKnown}
+use Rattle.schema_explicit_attributes.proofs.Distinct.{at-among}
+use Rattle.schema_data_types.specs.NumberedTypes.{whole_types, all_data_types, attribute_types, explicit_types, derived_types, inverse_types}
+use Rattle.schema_data_types.specs.ShapeTables.{IsKnown}
 use Rattle.schema_data_types.specs.Laws.{DataTypesAreKnown}
-use Rattle.schema_attributes.specs.Redeclaring.{IsRedeclaredAt}
-use Rattle.schema_unchecked.specs.Places.{IsDataTypeAt, AreDataTypesAt}
-use Rattle.schema_references.proofs.Holding.{written-name}
+use Rattle.schema_attributes.specs.steps.Redeclaring.{IsRedeclaredAt}
+use Rattle.schema_unchecked.specs.steps.Places.{IsDataTypeAt, AreDataTypesAt}
+use Rattle.schema_attribute_references.proofs.Holding.{written-name}
 
 -- what stands at a number of a row
 at-row : {A : Type 0} (all : List A) (row : List ℕ) (xs : List A) (j : ℕ) (x : A) → AreAt all row xs
@@ -33,7 +33,7 @@ at-row all (r ∷ row) (y ∷ xs) zero x h at = (r, refl, front-at all r row y x
 at-row all (r ∷ row) (y ∷ xs) (suc j) x h at = at-row all row xs j x (back-at all r row y xs h) at
 
 pub rows-within : {A : Type 0} (of : Declaration → List A) (all : List A) (ds : List Declaration)
-    (rows : List (List ℕ)) (i : ℕ) (d : Declaration) → AreRowsOf of all ds rows → slice_get ds i ≡ Some d
+    (rows : List (List ℕ)) (i : ℕ) (d : Declaration) → AreNumberRowsOf of all ds rows → slice_get ds i ≡ Some d
     → i < length rows
 rows-within of all ds rows i d h at =
     let same : length (map (map (slice_get all)) rows) ≡ length (map (λ (x : Declaration). map Some (of x)) ds) =
@@ -44,7 +44,7 @@ rows-within of all ds rows i d h at =
     omega (arith, same, long, wide, lt)
 
 pub data-types-here : (s : Schema) → IsResolved s → DataTypesAreKnown → (rows : List (List ℕ))
-    → AreRowsOf whole_types (all_data_types s) s.declarations rows → (i : ℕ) (e : Entity) → IsAt s i (entity e)
+    → AreNumberRowsOf whole_types (all_data_types s) s.declarations rows → (i : ℕ) (e : Entity) → IsAt s i (entity e)
     → AreDataTypesAt s (get_or rows i []) e.explicits
 data-types-here s r law rows are i e at j x h =
     let one : slice_get (explicit_types e.explicits) j ≡ Some x.data_type =

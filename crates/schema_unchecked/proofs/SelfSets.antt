@@ -13,13 +13,13 @@ use Rattle.schema_names.specs.Numbers.{HasNumber}
 use Rattle.schema_names.proofs.Numbers.{one-name}
 use Rattle.schema_data_types.specs.declared.values.Atom.{Atom as Numbered}
 use Rattle.schema_data_types.specs.declared.values.Atom.TheVariants as atoms
-use Rattle.schema_data_types.specs.Values.{IsMeant, Holds, AddsAll}
-use Rattle.schema_references.specs.Taking.{IsSet}
-use Rattle.schema_surveys.proofs.Bodies.{reason-same}
-use Rattle.schema_unchecked.specs.Judging.{IsFirstReason}
+use Rattle.schema_data_types.specs.steps.Values.{IsMeant, Holds, AddsAll}
+use Rattle.schema_attribute_references.specs.steps.Taking.{IsSet}
+use Rattle.schema_expression_analysis.proofs.Bodies.{reason-same}
+use Rattle.schema_unchecked.specs.steps.Judging.{IsFirstReason}
 use Rattle.schema_unchecked.proofs.Selves.{Alike, reason-alike}
-use Rattle.schema_parts.specs.Adding.{Adds}
-use Rattle.schema_unchecked.specs.Rules.{RuleHasReason}
+use Rattle.schema_unchecked_declarations.specs.UncheckedLists.{Adds}
+use Rattle.schema_unchecked.specs.steps.Rules.{RuleHasReason}
 
 -- rules whose reasons hold alike
 module _ (h : Name) (has on : Body → Reason → Type 0) (same : (b : Body) → Alike (has b) (on b)) where
@@ -96,7 +96,7 @@ module _ (s : Schema) (e : Name) (i : ℕ) (here : HasNumber s e i) where
       let same = has-alike s (Holds s (atoms.Instance i ∷ [])) (Self e) self-meant b r in
       ((λ h. same.0 (plain.1 h)), (λ h. plain.0 (same.1 h)))
 
--- .. of a defined type
+-- the reasons of a defined type's rule, for equal sets of SELF
 module _ (s : Schema) (k : DataType) (M : Set) (w : Bool) (same : SameSet M (IsOf s k))
     (told : IsTrue w ↔ IsOverSelect s k) where
   pub type-alike : (b : Body) → Alike (RuleHasReason s M w b) (TypeRuleHasReason s k b)

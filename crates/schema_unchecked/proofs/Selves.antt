@@ -12,11 +12,11 @@ use Rattle.schema_semantics.specs.Parts.{all_reasons}
 use Rattle.schema_names.specs.Numbers.{HasNumber}
 use Rattle.schema_names.proofs.Numbers.{one-name}
 use Rattle.schema_data_types.specs.declared.values.Atom.TheVariants as atoms
-use Rattle.schema_data_types.specs.Values.{Holds}
+use Rattle.schema_data_types.specs.steps.Values.{Holds}
 use Rattle.schema_unchecked.specs.declared.judgement.Judgement.{Judgement}
-use Rattle.schema_surveys.proofs.Agreeing.{chain}
-use Rattle.schema_surveys.proofs.Bodies.{gives-same, use-same}
-use Rattle.schema_unchecked.specs.Judging.{IsFirstReason, IsJudged}
+use Rattle.schema_expression_analysis.proofs.Agreeing.{chain}
+use Rattle.schema_expression_analysis.proofs.Bodies.{gives-same, use-same}
+use Rattle.schema_unchecked.specs.steps.Judging.{IsFirstReason, IsJudged}
 
 pub self-is : (s : Schema) (n : Name) (i : ℕ) → HasNumber s n i → (x : Atom)
     → Holds s (atoms.Instance i ∷ []) x ↔ Self n x

@@ -9,7 +9,7 @@ use Rattle.schema_semantics.specs.Names.{Name, declared_name, declaration_of}
 use Rattle.schema_semantics.specs.Faults.{IsResolved}
 use Rattle.schema_names.specs.Numbers.{HasNumber, IsAt}
 use Rattle.schema_names.proofs.Numbers.{stands-at}
-use Rattle.schema_places.proofs.OwnNumbers.{own-number-of}
+use Rattle.schema_explicit_attributes.proofs.OwnNumbers.{own-number-of}
 use Rattle.schema_names.proofs.Items.{mapped-at}
 
 pub number-here : (s : Schema) → IsResolved s → (i : ℕ) (d : Declaration) (n : Name) → IsAt s i d

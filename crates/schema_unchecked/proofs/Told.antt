@@ -6,10 +6,10 @@ use Rattle.schema_semantics.specs.declared.unchecked.Reason.{Reason}
 use Rattle.schema_semantics.specs.declared.unchecked.Reason.TheVariants as reasons
 use Rattle.schema_semantics.specs.Names.{Name}
 use Rattle.schema_semantics.specs.Parts.{UniqueHasReason}
-use Rattle.schema_unchecked.specs.Judging.{IsFirstReason}
-use Rattle.schema_references.specs.declared.naming.Naming.{Naming}
-use Rattle.schema_references.specs.Naming.{IsNaming}
-use Rattle.schema_unchecked.specs.Listing.{reason_by}
+use Rattle.schema_unchecked.specs.steps.Judging.{IsFirstReason}
+use Rattle.schema_attribute_references.specs.declared.unique_rule_names.Naming.{Naming}
+use Rattle.schema_attribute_references.specs.steps.Naming.{IsNaming}
+use Rattle.schema_unchecked.specs.steps.Listing.{reason_by}
 
 module _ (s : Schema) (e : Name) where
   pub unique-reason : (xs : List Attribute) (t : Naming) → IsNaming s e xs t

@@ -3,24 +3,24 @@ use Rattle.std.specs.Prelude.{◌≡◌, ℕ, ◌<◌, Bool, true, false, cond, 
 use Rattle.std.proofs.Common.{refl, inl, inr, ap, sym, subst, ◌∙◌, arith, zero, suc}
 use Rattle.std.proofs.lemmas.Bool.Decides.{nat_tests}
 use Rattle.std.proofs.lemmas.List.{length-map}
-use Rattle.digraph.specs.Graphs.{Graph, IsGraph, has, next}
-use Rattle.digraph.proofs.Searching.{either}
+use Rattle.graphs.specs.Graphs.{Graph, IsGraph, has, next}
+use Rattle.graphs.proofs.Searching.{either}
 use Rattle.express_syntax.specs.Schemas.{Schema, Derived}
 use Rattle.schema_semantics.specs.declared.unchecked.Reason.{Reason}
 use Rattle.schema_semantics.specs.Names.{OneOf, IsFirst}
 use Rattle.schema_semantics.specs.Faults.{IsResolved}
 use Rattle.schema_semantics.specs.Attributes.{Derivation, IsDerivation}
-use Rattle.schema_semantics.specs.Ranks.{Self, Uses, IsFaulty}
+use Rattle.schema_semantics.specs.Ranks.{Self, Uses, HasOwnReason}
 use Rattle.schema_semantics.specs.Reasons.{GivesReason, BodyMayUse}
 use Rattle.schema_semantics.specs.Parts.{all_reasons}
 use Rattle.schema_semantics.proofs.Lists.{first-holds}
 use Rattle.schema_attributes.specs.Derivations.{all_derivations, HasDerivation, HoldsDerivation}
-use Rattle.schema_derivations.specs.Ranking.{AreUses, AreFaulty}
-use Rattle.schema_derivations.proofs.Numbering.{stands-there}
-use Rattle.schema_derivations.proofs.Ranked.{below-end, something-at}
+use Rattle.schema_derived_attributes.specs.AttributeRanks.{AreUses, AreFaulty}
+use Rattle.schema_derived_attributes.proofs.Numbering.{stands-there}
+use Rattle.schema_derived_attributes.proofs.Ranked.{below-end, something-at}
 use Rattle.schema_unchecked.specs.declared.judgement.Judgement.{Judgement}
-use Rattle.schema_unchecked.specs.Judging.{IsFirstReason, IsJudged, AreJudged}
-use Rattle.schema_unchecked.specs.Surveyed.{below, uses_below, has_reason, is_faulty}
+use Rattle.schema_unchecked.specs.steps.Judging.{IsFirstReason, IsJudged, AreJudged}
+use Rattle.schema_unchecked.specs.steps.Surveyed.{below, uses_below, has_reason, is_faulty}
 
 -- numbers below a bound
 below-within : (n : ℕ) (xs : List ℕ) (k : ℕ) → has (below n xs) k ≡ true → k < n
@@ -128,7 +128,7 @@ module _ (s : Schema) (r : IsResolved s) (judged : List Judgement) (h : AreJudge
       some-is a b e = cc
 
       each : (j : ℕ) (d : Derivation) → HasDerivation s j d → (slice_get (map is_faulty judged) j ≡ Some true)
-          ↔ IsFaulty s d
+          ↔ HasOwnReason s d
       each j d k = (forth, back)
         where
           given : (P : Reason → Type 0) (o : Option Reason) → IsFirstReason P o → has_reason o ≡ true
@@ -141,7 +141,7 @@ module _ (s : Schema) (r : IsResolved s) (judged : List Judgement) (h : AreJudge
           taken P None first q p = absurd (first q p)
           taken P (Some o) first q p = refl
 
-          forth : slice_get (map is_faulty judged) j ≡ Some true → IsFaulty s d
+          forth : slice_get (map is_faulty judged) j ≡ Some true → HasOwnReason s d
           forth e =
               let (i, at, is) = said j d k in
               let (x, der) = stands-there s r j d k in
@@ -149,7 +149,7 @@ module _ (s : Schema) (r : IsResolved s) (judged : List Judgement) (h : AreJudge
               let (q, why) = given (GivesReason s (Self d.0) x.body) i.reason (is x der).reason yes in
               (x, der, q, why)
 
-          back : IsFaulty s d → slice_get (map is_faulty judged) j ≡ Some true
+          back : HasOwnReason s d → slice_get (map is_faulty judged) j ≡ Some true
           back (x, der, q, why) =
               let (i, at, is) = said j d k in
               mapped-there is_faulty judged j i at

@@ -1,29 +1,29 @@
-//! What of a declaration isn't checked (ISO 10303-11, 9).
+//! The unchecked parts of a declaration (ISO 10303-11, 9).
 
 ghost use Rattle.std.specs.Prelude.{◌≡◌, OnOk};
 ghost use Rattle.express_syntax.specs.Schemas.{type as type_tree, entity as entity_tree};
 ghost use Rattle.express_syntax.specs.Views.{declaration_of, entity_of, type_of};
 ghost use Rattle.schema_semantics.specs.Parts.{parts_of_type, parts_of_entity, parts_of_declaration};
 ghost use Rattle.schema_names.specs.Numbers.{IsAt};
-ghost use Rattle.schema_references.specs.Taking.{schema_in};
-ghost use Rattle.schema_parts.specs.Adding.{Adds, unchecked_in};
-ghost use Rattle.schema_unchecked.specs.Findings.{AreFound};
-ghost use Rattle.schema_unchecked.specs.Listing.{parts_of_constraints};
-ghost use Rattle.schema_unchecked.specs.Places.{derivations_before};
+ghost use Rattle.schema_attribute_references.specs.steps.Taking.{schema_in};
+ghost use Rattle.schema_unchecked_declarations.specs.UncheckedLists.{Adds, unchecked_in};
+ghost use Rattle.schema_unchecked.specs.steps.Findings.{AreFound};
+ghost use Rattle.schema_unchecked.specs.steps.Listing.{parts_of_constraints};
+ghost use Rattle.schema_unchecked.specs.steps.Places.{derivations_before};
 
-use crate::deriveds::add_derived_attributes;
-use crate::explicits::add_explicit_attributes;
+use crate::derived_attributes::add_derived_attributes;
+use crate::explicit_attributes::add_explicit_attributes;
 use crate::findings::Findings;
-use crate::listing::Holder;
+use crate::list_parts::Holder;
 use crate::rules::{add_entity_rules, add_type_rules};
-use crate::uniques::add_uniques;
+use crate::uniqueness_rules::add_uniques;
 use express_syntax::tree::{Declaration, Entity, TypeDeclaration};
-use schema_parts::declared::{add_inverse_clause, add_skipped, add_supertype};
-use schema_parts::limits::add_underlying;
-use schema_parts::list::{Label, Unchecked};
+use schema_unchecked_declarations::declarations::{add_inverse_clause, add_skipped, add_supertype};
+use schema_unchecked_declarations::limits::add_underlying;
+use schema_unchecked_declarations::list::{Label, Unchecked};
 use std::alloc::{AllocError, Global};
 
-/// Adds those of the defined type of this number (ISO 10303-11, 9.1).
+/// Adds the unchecked parts of a defined type (ISO 10303-11, 9.1).
 fn add_type<'a>(
     alloc: Global,
     findings: &Findings<'a, '_, '_>,
@@ -42,8 +42,7 @@ fn add_type<'a>(
     add_type_rules(alloc, findings, list, holder, declared.domain_rules())
 }
 
-/// Adds those of the uniqueness rules and the domain rules of the entity of this number
-/// (ISO 10303-11, 9.2.2).
+/// Adds the unchecked uniqueness rules and domain rules of an entity (ISO 10303-11, 9.2.2).
 fn add_constraints<'a>(
     alloc: Global,
     findings: &Findings<'a, '_, '_>,
@@ -62,7 +61,7 @@ fn add_constraints<'a>(
     add_entity_rules(alloc, findings, list, holder, entity.domain_rules())
 }
 
-/// Adds those of the entity of this number, whose first derived attribute has the number `first`
+/// Adds the unchecked parts of an entity, whose first derived attribute has the number `first`
 /// (ISO 10303-11, 9.2).
 fn add_entity<'a>(
     alloc: Global,
@@ -85,7 +84,8 @@ fn add_entity<'a>(
     add_constraints(alloc, findings, list, number, entity)
 }
 
-/// Adds those of the declaration of this number, before which so many derived attributes stand.
+/// Adds the unchecked parts of the declaration `number`. `first` derived attributes precede it in
+/// the schema.
 pub(crate) fn add_declaration<'a>(
     alloc: Global,
     findings: &Findings<'a, '_, '_>,

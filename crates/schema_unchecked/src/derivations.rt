@@ -1,31 +1,31 @@
 //! The derived attributes of a schema.
 
 ghost use Rattle.std.specs.Prelude.{◌≡◌, ◌<◌, ◌^◌, length, map, slice_get, Some, IfOk, OnOk};
-ghost use Rattle.digraph.specs.Graphs.{graph_of};
+ghost use Rattle.graphs.specs.Graphs.{graph_of};
 ghost use Rattle.express_syntax.specs.Views.{declaration_of, derived_of};
 ghost use Rattle.schema_names.specs.Numbers.{IsAt};
 ghost use Rattle.schema_attributes.specs.Derivations.{derivations_in};
-ghost use Rattle.schema_references.specs.Taking.{IsKnown, schema_in};
+ghost use Rattle.schema_attribute_references.specs.steps.Taking.{IsKnown, schema_in};
 ghost use Rattle.schema_data_types.specs.Items.{AreItems};
-ghost use Rattle.schema_unchecked.specs.Judging.{AreJudged};
-ghost use Rattle.schema_unchecked.specs.Growing.{AddsJudged};
-ghost use Rattle.schema_unchecked.specs.Surveyed.{below, uses_below, is_faulty};
-ghost use Rattle.schema_derivations.specs.Asked.{deriveds_in};
-ghost use Rattle.schema_derivations.specs.Ranking.{AreRanksOf};
+ghost use Rattle.schema_unchecked.specs.steps.Judging.{AreJudged};
+ghost use Rattle.schema_unchecked.specs.steps.Growing.{AddsJudged};
+ghost use Rattle.schema_unchecked.specs.steps.Surveyed.{below, uses_below, is_faulty};
+ghost use Rattle.schema_derived_attributes.specs.steps.Asked.{deriveds_in};
+ghost use Rattle.schema_derived_attributes.specs.AttributeRanks.{AreRanksOf};
 
 use crate::judgement::{Judgement, judge};
 use express_syntax::tree::{Declaration, Derived};
+use schema_attribute_references::schema_facts::Known;
 use schema_data_types::items::Items;
 use schema_data_types::values::Atom;
-use schema_derivations::ranking::rank_derivations;
-use schema_references::known::Known;
+use schema_derived_attributes::ranks::rank_derivations;
 use std::alloc::{AllocError, Global};
 use std::slice;
 
-/// So many derived attributes have numbers of 32 bits.
+/// The most derived attributes that a schema may have: they get 32-bit numbers.
 const MOST_DERIVATIONS: usize = 4_294_967_295;
 
-/// What stands behind the DERIVE of a declaration.
+/// Returns the DERIVE clause of an entity. Empty for other declarations.
 fn deriveds_in<'d, 'a>(declaration: &'d Declaration<'a>) -> &'d [Derived<'a>]
     ensures { map derived_of result.now ≡ deriveds_in (declaration_of declaration.now) }
 {
@@ -35,7 +35,7 @@ fn deriveds_in<'d, 'a>(declaration: &'d Declaration<'a>) -> &'d [Derived<'a>]
     }
 }
 
-/// Adds what the derived attributes of one declaration say by themselves.
+/// Adds the judgements of the derived attributes of a declaration.
 fn judge_declaration<'r, 'a>(
     alloc: Global,
     known: &Known<'a, '_, 'r>,
@@ -57,7 +57,7 @@ fn judge_declaration<'r, 'a>(
     Ok(())
 }
 
-/// By number, what the derived attributes of a schema say by themselves.
+/// Returns the judgements of the derived attributes of a schema, by number.
 pub fn judge_derivations<'r, 'a>(
     alloc: Global,
     known: &Known<'a, '_, 'r>,
@@ -82,7 +82,7 @@ pub fn judge_derivations<'r, 'a>(
     Ok(judged)
 }
 
-/// The numbers of a row that are below a bound.
+/// Returns the numbers of `uses` that are below `count`.
 fn row_below(alloc: Global, uses: &[u32], count: usize) -> Result<Vec<u32>, AllocError>
     ensures { IfOk result (λ row. row.items ≡ below count uses.now) }
 {
@@ -95,7 +95,7 @@ fn row_below(alloc: Global, uses: &[u32], count: usize) -> Result<Vec<u32>, Allo
     Ok(row)
 }
 
-/// By number, the derived attributes that each may use.
+/// Returns by number the derived attributes that each may use.
 fn rows_of_uses(alloc: Global, judged: &[Judgement]) -> Result<Vec<Vec<u32>>, AllocError>
     ensures { IfOk result (λ rows. graph_of rows.items
         ≡ map (uses_below (length judged.now)) judged.now) }
@@ -107,7 +107,7 @@ fn rows_of_uses(alloc: Global, judged: &[Judgement]) -> Result<Vec<Vec<u32>>, Al
     Ok(rows)
 }
 
-/// By number, which derived attributes are faulty by themselves.
+/// Returns by number whether a derived attribute is faulty by itself.
 fn faulty_ones(alloc: Global, judged: &[Judgement]) -> Result<Vec<bool>, AllocError>
     ensures { IfOk result (λ faulty. faulty.items ≡ map is_faulty judged.now) }
 {
@@ -118,10 +118,11 @@ fn faulty_ones(alloc: Global, judged: &[Judgement]) -> Result<Vec<bool>, AllocEr
     Ok(faulty)
 }
 
-/// By number, the ranks of the derived attributes of a schema, none for one that is set aside
-/// (ISO 10303-11, 9.2.1.2).
+/// Returns the ranks of the derived attributes of a schema, by number; `None` for one that is set
+/// aside (ISO 10303-11, 9.2.1.2).
 ///
-/// Where there are more than 2^32 - 1 there is no memory for them.
+/// # Errors
+/// `AllocError` if memory runs out or there are more than 2^32 - 1 derived attributes.
 pub fn derivation_ranks(
     alloc: Global,
     known: &Known<'_, '_, '_>,

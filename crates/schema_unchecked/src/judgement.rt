@@ -1,31 +1,31 @@
-//! What bodies say by themselves.
+//! The judgement of one expression, without those of the derived attributes that it uses.
 
 ghost use Rattle.std.specs.Prelude.{◌≡◌, IfOk};
 ghost use Rattle.express_syntax.specs.Views.{body_of};
-ghost use Rattle.schema_data_types.specs.Values.{Holds};
-ghost use Rattle.schema_references.specs.Taking.{IsKnown, schema_in};
+ghost use Rattle.schema_data_types.specs.steps.Values.{Holds};
+ghost use Rattle.schema_attribute_references.specs.steps.Taking.{IsKnown, schema_in};
 ghost use Rattle.schema_data_types.specs.Items.{AreItems};
-ghost use Rattle.schema_unchecked.specs.Judging.{IsJudged};
-ghost use Rattle.schema_unchecked.specs.Surveyed.{first_found};
+ghost use Rattle.schema_unchecked.specs.steps.Judging.{IsJudged};
+ghost use Rattle.schema_unchecked.specs.steps.Surveyed.{first_found};
 
 use express_syntax::tree::Body;
+use schema_attribute_references::schema_facts::Known;
 use schema_data_types::items::Items;
 use schema_data_types::values::Atom;
-use schema_references::known::Known;
+use schema_expression_analysis::survey::{Survey, survey_expression};
 use schema_semantics::unchecked::Reason;
-use schema_surveys::survey::{Survey, survey_expression};
 use std::alloc::{AllocError, Global};
 
-/// What a body says by itself.
+/// The judgement of the body of a rule or of a derived attribute, by itself.
 #[derive(Drop)]
 pub struct Judgement {
-    /// The first reason why it isn't checked, if there is one.
+    /// The first reason why the body isn't checked, if any.
     pub reason: Option<Reason>,
-    /// The numbers of the derived attributes that its value may be asked of.
+    /// The numbers of the derived attributes on which the value may depend.
     pub uses: Vec<u32>,
 }
 
-/// The first reason that is found in an expression.
+/// Returns the first reason in a survey, if any.
 fn first_found(survey: &Survey) -> Option<Reason>
     ensures { result ≡ first_found survey.now }
 {
@@ -42,7 +42,7 @@ fn first_found(survey: &Survey) -> Option<Reason>
     }
 }
 
-/// What a body says by itself, where SELF may be these.
+/// Returns the judgement of `body`, where SELF may be one of `own`.
 pub fn judge<'r, 'a>(
     alloc: Global,
     known: &Known<'a, '_, 'r>,

@@ -1,20 +1,20 @@
-//! The whole list.
+//! The list of all unchecked parts of a schema.
 
 ghost use Rattle.std.specs.Prelude.{◌≡◌, ◌<◌, ◌^◌, length, map, IfOk, OnOk};
 ghost use Rattle.express_syntax.specs.Views.{declaration_of};
 ghost use Rattle.schema_semantics.specs.Parts.{AreUnchecked, candidates};
-ghost use Rattle.schema_references.specs.Taking.{schema_in};
-ghost use Rattle.schema_parts.specs.Adding.{Adds, unchecked_in};
-ghost use Rattle.schema_unchecked.specs.Findings.{AreFound};
+ghost use Rattle.schema_attribute_references.specs.steps.Taking.{schema_in};
+ghost use Rattle.schema_unchecked_declarations.specs.UncheckedLists.{Adds, unchecked_in};
+ghost use Rattle.schema_unchecked.specs.steps.Findings.{AreFound};
 
 use crate::declarations::add_declaration;
-use crate::deriveds::first_behind;
+use crate::derived_attributes::first_behind;
 use crate::findings::Findings;
 use express_syntax::tree::Declaration;
-use schema_parts::list::Unchecked;
+use schema_unchecked_declarations::list::Unchecked;
 use std::alloc::{AllocError, Global};
 
-/// Adds those of all declarations, in the order of the text.
+/// Adds the unchecked parts of all declarations, in the order of the text.
 fn add_all<'a>(
     alloc: Global,
     findings: &Findings<'a, '_, '_>,
@@ -37,8 +37,8 @@ fn add_all<'a>(
     Ok(())
 }
 
-/// The parts of a schema that aren't checked, each with the first reason that holds, in the order
-/// of the text.
+/// Returns the parts of a schema that aren't checked, each with the first reason that applies, in
+/// the order of the text.
 pub fn unchecked_parts(
     alloc: Global,
     findings: &Findings<'_, '_, '_>,

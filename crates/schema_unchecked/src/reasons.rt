@@ -1,4 +1,4 @@
-//! The reason that is given for a body.
+//! The reason why a rule or a derived attribute isn't checked.
 
 ghost use Rattle.std.specs.Prelude.{◌≡◌, IfOk};
 ghost use Rattle.std.specs.List.{list_any};
@@ -6,23 +6,23 @@ ghost use Rattle.express_syntax.specs.Schemas.{Derived as DerivedTree};
 ghost use Rattle.express_syntax.specs.Views.{body_of};
 ghost use Rattle.schema_semantics.specs.Attributes.{Derivation, IsDerivation};
 ghost use Rattle.schema_semantics.specs.Ranks.{Self};
-ghost use Rattle.schema_data_types.specs.Values.{Holds};
+ghost use Rattle.schema_data_types.specs.steps.Values.{Holds};
 ghost use Rattle.schema_attributes.specs.Derivations.{HasDerivation};
-ghost use Rattle.schema_references.specs.Taking.{IsKnown, schema_in};
+ghost use Rattle.schema_attribute_references.specs.steps.Taking.{IsKnown, schema_in};
 ghost use Rattle.schema_data_types.specs.Items.{AreItems};
-ghost use Rattle.schema_derivations.specs.Ranking.{AreRanksOf};
-ghost use Rattle.schema_unchecked.specs.Judging.{AreJudged, IsReasonFor};
-ghost use Rattle.schema_unchecked.specs.Surveyed.{is_aside, reason_with};
+ghost use Rattle.schema_derived_attributes.specs.AttributeRanks.{AreRanksOf};
+ghost use Rattle.schema_unchecked.specs.steps.Judging.{AreJudged, IsReasonFor};
+ghost use Rattle.schema_unchecked.specs.steps.Surveyed.{is_aside, reason_with};
 
 use crate::judgement::{Judgement, judge};
 use express_syntax::tree::Body;
+use schema_attribute_references::schema_facts::Known;
 use schema_data_types::items::Items;
 use schema_data_types::values::Atom;
-use schema_references::known::Known;
 use schema_semantics::unchecked::Reason;
 use std::alloc::{AllocError, Global};
 
-/// Whether the derived attribute of a number is set aside.
+/// Whether the derived attribute `number` is set aside.
 fn is_aside(ranks: &[Option<u32>], number: u32) -> bool
     ensures { result ≡ is_aside ranks.now number }
 {
@@ -32,15 +32,15 @@ fn is_aside(ranks: &[Option<u32>], number: u32) -> bool
     }
 }
 
-/// Whether one of these derived attributes is set aside.
+/// Whether one of the derived attributes is set aside.
 fn any_aside(ranks: &[Option<u32>], uses: &[u32]) -> bool
     ensures { result ≡ list_any (is_aside ranks.now) uses.now }
 {
     uses.iter().any(|number| is_aside(ranks, *number))
 }
 
-/// The first reason of a body by itself, else that one of the derived attributes that it may use is
-/// set aside.
+/// Returns the reason of the judgement, if any, otherwise `Leads` if a derived attribute that it
+/// may use is set aside.
 fn reason_with(ranks: &[Option<u32>], judgement: &Judgement) -> Option<Reason>
     ensures { result ≡ reason_with ranks.now judgement.now }
 {
@@ -54,8 +54,9 @@ fn reason_with(ranks: &[Option<u32>], judgement: &Judgement) -> Option<Reason>
     }
 }
 
-/// The reason that is given for a body, where SELF may be these: the first that it gives by itself,
-/// else that one of the derived attributes that it may use is set aside. None where it is checked.
+/// Returns the reason why `body` isn't checked, where SELF may be one of `own`: its own first
+/// reason, otherwise `Leads` if a derived attribute that it may use is set aside. `None` if it is
+/// checked.
 pub fn reason_for<'r, 'a>(
     alloc: Global,
     known: &Known<'a, '_, 'r>,
@@ -74,7 +75,7 @@ pub fn reason_for<'r, 'a>(
     Ok(reason_with(ranks, &judgement))
 }
 
-/// The reason that is given for the derived attribute of a number.
+/// Returns the reason why the derived attribute `number` isn't checked, if any.
 pub fn reason_of_derived(
     known: &Known<'_, '_, '_>,
     judged: &[Judgement],

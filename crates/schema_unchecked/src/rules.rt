@@ -9,35 +9,33 @@ ghost use Rattle.schema_semantics.specs.Parts.{parts_of_rules, TypeRuleHasReason
 ghost use Rattle.schema_semantics.specs.Ranks.{Self, HasReason};
 ghost use Rattle.schema_semantics.specs.Shapes.{IsOf, IsOverSelect};
 ghost use Rattle.schema_names.specs.Numbers.{HasNumber};
-ghost use Rattle.schema_data_types.specs.Values.{Holds};
-ghost use Rattle.schema_references.specs.Taking.{IsSet, schema_in};
-ghost use Rattle.schema_unchecked.specs.Judging.{IsFirstReason};
-ghost use Rattle.schema_parts.specs.Adding.{Adds, unchecked_in};
-ghost use Rattle.schema_unchecked.specs.Findings.{AreFound};
-ghost use Rattle.schema_unchecked.specs.Rules.{has_reason};
+ghost use Rattle.schema_data_types.specs.steps.Values.{Holds};
+ghost use Rattle.schema_attribute_references.specs.steps.Taking.{IsSet, schema_in};
+ghost use Rattle.schema_unchecked.specs.steps.Judging.{IsFirstReason};
+ghost use Rattle.schema_unchecked_declarations.specs.UncheckedLists.{Adds, unchecked_in};
+ghost use Rattle.schema_unchecked.specs.steps.Findings.{AreFound};
+ghost use Rattle.schema_unchecked.specs.steps.Rules.{has_reason};
 
 use crate::findings::Findings;
-use crate::listing::{Holder, add_for, rule_label};
+use crate::list_parts::{Holder, add_for, rule_label};
 use crate::reasons::reason_for;
 use express_syntax::tree::{Body, Rule};
 use schema_data_types::values::{Atom, add_named, is_over_select};
-use schema_parts::list::Unchecked;
 use schema_semantics::unchecked::{PartKind, Reason};
+use schema_unchecked_declarations::list::Unchecked;
 use std::alloc::{AllocError, Global};
 use std::slice;
 use step_literals::literal::Word;
 
-/// What SELF may be in a rule.
+/// The possible values of SELF in a rule.
 #[derive(Clone, Copy)]
 pub struct Own<'r> {
     pub atoms: &'r [Atom],
-    /// Whether it may be of a SELECT.
+    /// Whether SELF may be a value of a SELECT.
     pub is_over_select: bool,
 }
 
-/// The reason that is given for a rule, if there is one: the first that holds, for what SELF may be.
-///
-/// An error says that memory ran out.
+/// Returns the first reason why a rule isn't checked, if any, for the possible values of SELF.
 pub fn reason_of_rule<'a>(
     alloc: Global,
     findings: &Findings<'a, '_, '_>,
@@ -51,7 +49,7 @@ pub fn reason_of_rule<'a>(
     if own.is_over_select {
         return Ok(Some(Reason::Profile));
     }
-    // What SELF may be lives shorter than what is found.
+    // The copy lets the lifetimes of the findings shorten to that of `own`.
     let findings = *findings;
     reason_for(
         alloc,
@@ -63,7 +61,7 @@ pub fn reason_of_rule<'a>(
     )
 }
 
-/// Adds a rule where there is a reason, by its number in its clause where it has no label.
+/// Adds a rule if it is unchecked, by its label, if any, otherwise by its number in its clause.
 fn add_rule<'a>(
     alloc: Global,
     findings: &Findings<'a, '_, '_>,
@@ -83,7 +81,7 @@ fn add_rule<'a>(
     add_for(alloc, list, PartKind::Where, label, reason)
 }
 
-/// Adds those of some rules for which there is a reason.
+/// Adds the unchecked ones of `rules`.
 fn add_rules<'a>(
     alloc: Global,
     findings: &Findings<'a, '_, '_>,
@@ -103,7 +101,7 @@ fn add_rules<'a>(
     Ok(())
 }
 
-/// Adds those of the rules of an entity, whose SELF is an instance of it (ISO 10303-11, 9.2.2.2).
+/// Adds the unchecked rules of an entity. SELF is an instance of it (ISO 10303-11, 9.2.2.2).
 pub(crate) fn add_entity_rules<'a>(
     alloc: Global,
     findings: &Findings<'a, '_, '_>,
@@ -126,9 +124,8 @@ pub(crate) fn add_entity_rules<'a>(
     add_rules(alloc, findings, list, own, holder.name, rules)
 }
 
-/// What the values of a defined type may be, and so SELF in its rules (ISO 10303-11, 9.1).
-///
-/// An error says that memory ran out.
+/// Returns the possible values of a defined type, which are those of SELF in its rules
+/// (ISO 10303-11, 9.1).
 pub fn values_of_type(
     alloc: Global,
     findings: &Findings<'_, '_, '_>,
@@ -145,7 +142,7 @@ pub fn values_of_type(
     Ok(atoms)
 }
 
-/// Whether a defined type is a SELECT, or stands for one under whatever names.
+/// Whether a defined type is a SELECT, directly or through the names of other defined types.
 pub fn is_type_over_select(findings: &Findings<'_, '_, '_>, holder: Holder<'_>) -> bool
     requires found { AreFound findings.now }
     requires number { HasNumber (schema_in findings.now.known) (capitals holder.name)
@@ -156,7 +153,7 @@ pub fn is_type_over_select(findings: &Findings<'_, '_, '_>, holder: Holder<'_>) 
     is_over_select(&findings.known.tables, holder.number)
 }
 
-/// Adds those of the rules of a defined type, whose SELF is a value of it (ISO 10303-11, 9.1).
+/// Adds the unchecked rules of a defined type. SELF is a value of it (ISO 10303-11, 9.1).
 pub(crate) fn add_type_rules<'a>(
     alloc: Global,
     findings: &Findings<'a, '_, '_>,

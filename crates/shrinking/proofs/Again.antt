@@ -9,20 +9,20 @@ use Rattle.express_syntax.specs.declared.fault.SchemaFault.TheVariants as schema
 use Rattle.express_syntax.proofs.UniqueSchemas.{one_schema}
 use Rattle.schema_semantics.specs.Names.{Name}
 use Rattle.schema_semantics.specs.Parts.{AreUnchecked}
-use Rattle.schema_parts.specs.Adding.{unchecked_in}
+use Rattle.schema_unchecked_declarations.specs.UncheckedLists.{unchecked_in}
 use Rattle.conformance.specs.Choices.{Choice, chosen_names, unknown_choice}
-use Rattle.conformance.specs.Said.{FileConforms}
-use Rattle.check_findings.specs.Findings.{ConformsWhereNothingIsFound}
-use Rattle.merged_populations.specs.Headline.{SecondMergesStay}
+use Rattle.conformance.specs.SchemaMeanings.{FileConforms}
+use Rattle.file_findings.specs.Findings.{ConformsWhereNothingIsFound}
+use Rattle.merge_theorems.specs.Headline.{SecondMergesStay}
 use Rattle.files.specs.declared.fault.Role.TheVariants as roles
-use Rattle.faults.specs.declared.fault.Fault.{Fault}
-use Rattle.faults.specs.declared.fault.Fault.TheVariants as faults
-use Rattle.checking.specs.Checks.{HasSchema}
+use Rattle.reports.specs.declared.fault.Fault.{Fault}
+use Rattle.reports.specs.declared.fault.Fault.TheVariants as faults
+use Rattle.checking.specs.Checks.{IsResolvedSchemaText}
 use Rattle.checking.specs.Reporting.{IsReport}
 use Rattle.checking.proofs.Texts.{no_schema_fault}
 use Rattle.shrinking.specs.declared.summary.Summary.{Summary}
-use Rattle.shrinking.specs.Shrinking.{Passes, IsUnknown, IsDone, Answers}
-use Rattle.shrinking.specs.Laws.{OwnOutputsPass, SecondRunsStay, Stays}
+use Rattle.shrinking.specs.Shrinking.{Passes, IsUnknownChoice, IsDone, ShrinkAnswers}
+use Rattle.shrinking.specs.Laws.{OwnOutputsPass, SecondShrinksStay, Stays}
 use Rattle.shrinking.proofs.Refusing.{none_unchecked}
 
 pub own_outputs_pass : ConformsWhereNothingIsFound → OwnOutputsPass
@@ -41,21 +41,21 @@ own_outputs_pass law s chosen bytes output merged =
     )
 
 module _ (c : Choice) (strict : Bool) (text bytes output certificate : List ℕ) (s : Schema) (m : Summary)
-    (has : HasSchema s text) (passes : Passes strict s) (known : unknown_choice s c ≡ None)
+    (has : IsResolvedSchemaText s text) (passes : Passes strict s) (known : unknown_choice s c ≡ None)
     (done : IsDone s (chosen_names s c) bytes output certificate m) where
   -- the second run reads the same schema
-  one : (t : Schema) → HasSchema t text → t ≡ s
+  one : (t : Schema) → IsResolvedSchemaText t text → t ≡ s
   one t other = one_schema text t s other.reads has.reads
 
-  not_unknown : (t : Schema) (f : SchemaFault) → t ≡ s → IsUnknown t c f → ⊥
+  not_unknown : (t : Schema) (f : SchemaFault) → t ≡ s → IsUnknownChoice t c f → ⊥
   not_unknown t (schemas.Name kind name) e h =
-      let no = subst (λ u. IsUnknown u c (schemas.Name kind name)) e h in
+      let no = subst (λ u. IsUnknownChoice u c (schemas.Name kind name)) e h in
       absurd (let clash = sym known ∙ no.1 in cc)
   not_unknown t (schemas.Text kind place) e h = h
   not_unknown t schemas.Memory e h = h
 
   stays : OwnOutputsPass → SecondMergesStay → (again recertified : List ℕ) (r : Result Summary Fault)
-      → Answers c strict text output again recertified r → Stays output again r
+      → ShrinkAnswers c strict text output again recertified r → Stays output again r
   stays own stay again recertified (Ok n) h =
       let redone : IsDone s (chosen_names s c) output again recertified n =
       subst (λ u. IsDone u (chosen_names u c) output again recertified n) (one h.0 h.1) h.4 in
@@ -80,7 +80,7 @@ module _ (c : Choice) (strict : Bool) (text bytes output certificate : List ℕ)
   stays own stay again recertified (Err (faults.Device role written)) h = tt
   stays own stay again recertified (Err faults.Memory) h = tt
 
-pub second_runs_stay : OwnOutputsPass → SecondMergesStay → SecondRunsStay
+pub second_runs_stay : OwnOutputsPass → SecondMergesStay → SecondShrinksStay
 second_runs_stay own stay c strict text bytes output certificate again recertified m result first =
     stays c strict text bytes output certificate first.0 m first.1 first.2 first.3 first.4 own stay again recertified
     result

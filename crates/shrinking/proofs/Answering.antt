@@ -11,24 +11,24 @@ use Rattle.express_syntax.specs.Schemas.{Schema}
 use Rattle.express_syntax.specs.Texts as schema_texts
 use Rattle.express_syntax.specs.declared.fault.SchemaFault.{SchemaFault}
 use Rattle.express_syntax.specs.declared.fault.SchemaFault.TheVariants as schemas
-use Rattle.schema_types.specs.Resolving.{IsNameFault}
+use Rattle.schema_types.specs.Resolution.{IsNameFault}
 use Rattle.schema_semantics.specs.Names.{Name}
 use Rattle.conformance.specs.Choices.{Choice, chosen_names, unknown_choice}
-use Rattle.pin_choices.specs.Chosen.{IsChoiceFault}
+use Rattle.merge_choices.specs.ChosenEntities.{IsChoiceFault}
 use Rattle.files.specs.Faults.{text_fault}
-use Rattle.files.specs.Reads.{IsBeyond}
+use Rattle.files.specs.steps.Reads.{IsBeyond}
 use Rattle.files.specs.declared.read.ReadFault.{ReadFault}
 use Rattle.files.specs.declared.read.ReadFault.TheVariants as reads
 use Rattle.files.specs.declared.fault.Role.TheVariants as roles
 use Rattle.files.specs.declared.fault.FileFault.{FileFault}
 use Rattle.files.specs.declared.fault.FileFault.TheVariants as files
-use Rattle.faults.specs.Faults.{of_file, of_schema, unread}
-use Rattle.faults.specs.declared.fault.Fault.{Fault}
-use Rattle.faults.specs.declared.fault.Fault.TheVariants as faults
-use Rattle.checking.specs.Checks.{HasSchema}
+use Rattle.reports.specs.Faults.{of_file, of_schema, unread}
+use Rattle.reports.specs.declared.fault.Fault.{Fault}
+use Rattle.reports.specs.declared.fault.Fault.TheVariants as faults
+use Rattle.checking.specs.Checks.{IsResolvedSchemaText}
 use Rattle.shrinking.specs.declared.summary.Summary.{Summary}
-use Rattle.shrinking.specs.Shrinking.{Passes, IsDone, FileAnswers, Answers, Shrinks, Written}
-use Rattle.shrinking.specs.ComputedAnswers.{Writes, FileShrinks, SourceShrinks}
+use Rattle.shrinking.specs.Shrinking.{Passes, IsDone, FileAnswers, ShrinkAnswers, Shrinks, Written}
+use Rattle.shrinking.specs.steps.ComputedAnswers.{Writes, FileShrinks, SourceShrinks}
 
 -- what stays grows by nothing
 kept_appends : (a b : Option (List ℕ)) → Keeps a b → Appends a b []
@@ -45,7 +45,7 @@ some_text : (told : Option (List ℕ)) → (text : List ℕ) × IfSome told (λ 
 some_text None = ([], tt)
 some_text (Some text) = (text, refl)
 
--- .. that are too many
+-- bytes that are to come, more than the limit
 long_text : (limit : ℕ) (told : Option (List ℕ)) → IsBeyond limit told
     → (text : List ℕ) × IfSome told (λ t. t ≡ text) × (limit < length text)
 long_text limit None h =
@@ -76,7 +76,7 @@ module _ (s : Schema) (chosen : List Name) (bytes : List ℕ) where
     certified = b;
   }
 
-  -- .. or a front of them
+  -- a prefix of both texts is written
   pub cut : (out cert : Written) (text certified : List ℕ) (m : Summary) (f : FileFault) (r : Fault)
       → r ≡ of_file f → IsDone s chosen bytes text certified m → Writes out cert text certified (Err f)
       → FileShrinks s chosen bytes out cert (Err r)
@@ -172,10 +172,10 @@ not_given s chosen file out cert e r is beyond =
     by reads.Memory h = any faults.Memory (λ bytes. (refl, refl))
 
 -- what is answered to a file is answered to a schema that lets it pass
-file_answered : (c : Choice) (strict : Bool) (s : Schema) (text bytes output certificate : List ℕ) → HasSchema s text
+file_answered : (c : Choice) (strict : Bool) (s : Schema) (text bytes output certificate : List ℕ) → IsResolvedSchemaText s text
     → Passes strict s → unknown_choice s c ≡ None → (r : Result Summary Fault)
     → FileAnswers s (chosen_names s c) bytes output certificate r
-    → Answers c strict text bytes output certificate r
+    → ShrinkAnswers c strict text bytes output certificate r
 file_answered c strict s text bytes output certificate has passes known (Ok m) h = (s, has, passes, known, h)
 file_answered c strict s text bytes output certificate has passes known (Err (faults.Schema f)) h = absurd h
 file_answered c strict s text bytes output certificate has passes known (Err (faults.Unchecked us)) h = absurd h
@@ -204,7 +204,7 @@ file_answered c strict s text bytes output certificate has passes known (Err fau
 
 module _ (c : Choice) (strict : Bool) (text : List ℕ) where
   pub settled : (s : Schema) (file : Option (List ℕ)) (out cert : Written) (r : Result Summary Fault)
-      → HasSchema s text → Passes strict s → unknown_choice s c ≡ None
+      → IsResolvedSchemaText s text → Passes strict s → unknown_choice s c ≡ None
       → SourceShrinks s (chosen_names s c) file out cert r → Shrinks c strict (Some text) file out cert r
   settled s file out cert r has passes known h =
       let k = h.shrinks in
@@ -222,7 +222,7 @@ module _ (c : Choice) (strict : Bool) (text : List ℕ) where
 
   -- the file isn't looked at
   pub unlooked : (file out cert : Option (List ℕ)) (r : Fault)
-      → ((bytes : List ℕ) → Answers c strict text bytes [] [] (Err r))
+      → ((bytes : List ℕ) → ShrinkAnswers c strict text bytes [] [] (Err r))
       → Shrinks c strict (Some text) file (unwritten out) (unwritten cert) (Err r)
   unlooked file out cert r h =
       let bytes = some_text file in
@@ -240,7 +240,7 @@ module _ (c : Choice) (strict : Bool) (text : List ℕ) where
 
   -- a chosen name is no entity
   pub unknown : (s : Schema) (file out cert : Option (List ℕ)) (f : SchemaFault) (r : Fault) → r ≡ of_schema f
-      → HasSchema s text → Passes strict s → IsChoiceFault s c f
+      → IsResolvedSchemaText s text → Passes strict s → IsChoiceFault s c f
       → Shrinks c strict (Some text) file (unwritten out) (unwritten cert) (Err r)
   unknown s file out cert f r is has passes h =
       subst (λ (x : Fault). Shrinks c strict (Some text) file (unwritten out) (unwritten cert) (Err x)) (sym is) (by f h)
@@ -266,7 +266,7 @@ module _ (c : Choice) (strict : Bool) (text : List ℕ) where
       by (schemas.Name kind name) h = absurd h
       by schemas.Memory h = unlooked file out cert faults.Memory (λ bytes. (refl, refl))
 
-  -- .. or a name in it is at fault
+  -- a name in the schema is at fault
   pub unresolved : (s : Schema) (file out cert : Option (List ℕ)) (f : SchemaFault) (r : Fault) → r ≡ of_schema f
       → length text ≤ 2 ^ 40 → schema_texts.ReadsAs text s → IsNameFault s f
       → Shrinks c strict (Some text) file (unwritten out) (unwritten cert) (Err r)
@@ -297,7 +297,7 @@ of_source c strict schema left bytes file out cert r h k = record {
   certified = k.certified;
 }
 
--- .. which isn't read to its end
+-- the schema isn't read to its end
 pub schema_not_given : (c : Choice) (strict : Bool) (schema file out cert : Option (List ℕ)) (e : ReadFault)
     (r : Fault) → r ≡ unread roles.Schema e → (e ≡ reads.TooLarge → IsBeyond (2 ^ 40) schema)
     → Shrinks c strict schema file (unwritten out) (unwritten cert) (Err r)
@@ -305,7 +305,7 @@ schema_not_given c strict schema file out cert e r is beyond =
     subst (λ (x : Fault). Shrinks c strict schema file (unwritten out) (unwritten cert) (Err x)) (sym is) (by e beyond)
   where
     with_text : (text : List ℕ) → IfSome schema (λ t. t ≡ text) → (x : Fault)
-        → ((bytes : List ℕ) → Answers c strict text bytes [] [] (Err x))
+        → ((bytes : List ℕ) → ShrinkAnswers c strict text bytes [] [] (Err x))
         → Shrinks c strict schema file (unwritten out) (unwritten cert) (Err x)
     with_text text told x h =
         let bytes = some_text file in

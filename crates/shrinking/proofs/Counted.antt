@@ -5,19 +5,19 @@ use Rattle.std.specs.List.{IsDistinct, AllByRecursion}
 use Rattle.std.proofs.lemmas.Bool.{cases_lt, ne_eqb}
 use Rattle.std.proofs.lemmas.Option.{slice_get_within}
 use Rattle.step_values.specs.Values.{none}
-use Rattle.step_equal.specs.Rows.{Row, names, IsName, IsPopulation}
-use Rattle.step_equal.specs.Keeping.{IsCongruence}
-use Rattle.step_equal.specs.Images.{head_of, quotient}
-use Rattle.step_equal.specs.Tables.{Table, class_at, same_class, shares}
-use Rattle.step_equal.specs.Standard.{IsFirst, IsStandard}
-use Rattle.step_equal.proofs.Lookup.{row_cases, name_here, name_later}
-use Rattle.step_equal.proofs.Congruences.{congruence}
-use Rattle.step_equal.proofs.Rounds.{own, refinement_grounded, standard_is_valid, tables_decide}
-use Rattle.step_equal.proofs.Ancestors.{classes_are_ancestors}
-use Rattle.step_equal.proofs.Numbering.{ancestor_there, index_named, same_class_is, is_same_class, begins_in_time}
-use Rattle.step_equal.proofs.Chosen.{row_of_quotient, quotient_distinct}
-use Rattle.step_equal.proofs.Quotients.{in_class, same_head, quotient_image}
-use Rattle.step_equal.proofs.Counting.{apart_no_more}
+use Rattle.value_equality.specs.Rows.{Row, names, IsName, IsPopulation}
+use Rattle.value_equality.specs.ValueEquality.{IsCongruence}
+use Rattle.value_equality.specs.Images.{head_of, quotient}
+use Rattle.value_equality.specs.Tables.{Table, class_at, same_class, shares}
+use Rattle.value_equality.specs.Standard.{IsFirstOfClass, IsStandard}
+use Rattle.value_equality.proofs.Lookup.{row_cases, name_here, name_later}
+use Rattle.value_equality.proofs.Congruences.{congruence}
+use Rattle.value_equality.proofs.Rounds.{own, refinement_grounded, standard_is_valid, tables_decide}
+use Rattle.value_equality.proofs.Ancestors.{classes_are_ancestors}
+use Rattle.value_equality.proofs.Numbering.{ancestor_there, index_named, same_class_is, is_same_class, begins_in_time}
+use Rattle.value_equality.proofs.Chosen.{row_of_quotient, quotient_distinct}
+use Rattle.value_equality.proofs.Quotients.{in_class, same_head, quotient_image}
+use Rattle.value_equality.proofs.Counting.{apart_no_more}
 
 -- a row for each number below n
 class_row : ℕ → Row
@@ -94,15 +94,15 @@ module _ (P : List Row) (pinned : ℕ → Bool) (t : Table) (population : IsPopu
             (c, e, slice_get_within t.classes c there.0 there.1)
 
     -- the first of a class stays its first
-    first_stays : (round c i n : ℕ) → IsFirst (names P) t round c i → round + n ≤ t.rounds
-        → IsFirst (names P) t (round + n) c i
-    first_stays round c i zero first l = subst (λ k. IsFirst (names P) t k c i) (omega arith) first
+    first_stays : (round c i n : ℕ) → IsFirstOfClass (names P) t round c i → round + n ≤ t.rounds
+        → IsFirstOfClass (names P) t (round + n) c i
+    first_stays round c i zero first l = subst (λ k. IsFirstOfClass (names P) t k c i) (omega arith) first
     first_stays round c i (suc n) first l =
         let before = first_stays round c i n first (omega arith) in
         let next = one_more (round + n) before (omega arith) in
-        subst (λ k. IsFirst (names P) t k c i) (omega arith) next
+        subst (λ k. IsFirstOfClass (names P) t k c i) (omega arith) next
       where
-        one_more : (k : ℕ) → IsFirst (names P) t k c i → k < t.rounds → IsFirst (names P) t (k + 1) c i
+        one_more : (k : ℕ) → IsFirstOfClass (names P) t k c i → k < t.rounds → IsFirstOfClass (names P) t (k + 1) c i
         one_more k f less = record {
           within = f.within;
           there = standard.numbered.keeps_number k c i f;
@@ -148,7 +148,7 @@ module _ (P : List Row) (pinned : ℕ → Bool) (t : Table) (population : IsPopu
         let related : E a b ≡ true = is_same_class (class a) (class b) c.0 c.1 (d.1 ∙ ap Some (sym one)) in
         sym x.first ∙ same_head P pinned E agrees a b related ∙ z.first
 
-    -- .. and is one of those of the table
+    -- the class of an instance is one of those of the table
     into_classes : (a : ℕ) → IsName (quotient P E) a
         → IsName (class_rows (length t.classes)) (or_zero (class a))
     unfolding or_zero
@@ -215,7 +215,7 @@ module _ (P : List Row) (pinned : ℕ → Bool) (t : Table) (population : IsPopu
         let many : length (class_rows n) ≡ n = as_many_rows n in
         omega (arith, most, least, many)
 
-    -- .. which are no more than the instances
+    -- the classes are no more than the instances
     pub classes_few : length t.classes ≤ length P
     classes_few =
         let less : length (quotient P E) ≤ length P = apart_no_more (λ y. y) (quotient P E) P

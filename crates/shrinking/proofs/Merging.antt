@@ -10,28 +10,28 @@ use Rattle.step_structures.specs.Texts.{ReadsAs}
 use Rattle.step_exchange.specs.Exchanges.{structure}
 use Rattle.step_exchange.specs.declared.structure.Exchange.{Exchange}
 use Rattle.step_exchange.proofs.Named.{names-are, few}
-use Rattle.step_equal.specs.Rows.{Row, names}
-use Rattle.step_equal.specs.Images.{head_of}
-use Rattle.step_equal.specs.Tables.{Table, shares}
-use Rattle.step_equal.specs.Standard.{IsStandard}
-use Rattle.step_equal.proofs.Rounds.{standard_is_valid, tables_decide}
-use Rattle.step_equal.proofs.Few.{rounds_are_few}
+use Rattle.value_equality.specs.Rows.{Row, names}
+use Rattle.value_equality.specs.Images.{head_of}
+use Rattle.value_equality.specs.Tables.{Table, shares}
+use Rattle.value_equality.specs.Standard.{IsStandard}
+use Rattle.value_equality.proofs.Rounds.{standard_is_valid, tables_decide}
+use Rattle.value_equality.proofs.Few.{rounds_are_few}
 use Rattle.express_syntax.specs.Schemas.{Schema}
 use Rattle.schema_semantics.specs.Names.{Name}
 use Rattle.conformance.specs.declared.finding.Finding.{Finding}
-use Rattle.conformance.specs.Said.{Said}
-use Rattle.schema_rules.specs.declared.finding.RuleFinding.{RuleFinding}
-use Rattle.check_findings.specs.Findings.{AreFindings, ConformsWhereNothingIsFound}
-use Rattle.merged_texts.specs.Merged.{merged_text}
-use Rattle.merged_texts.proofs.Bounded.{names_within}
-use Rattle.merged_populations.specs.Headline.{IsInput, IsMergeOf, MergesAreLeast}
-use Rattle.merged_populations.proofs.Headed.{file_names, of_file}
-use Rattle.merged_populations.proofs.Whole.{merged_files_are_least}
-use Rattle.merge_tables.specs.Merges.{AreTablesOf}
-use Rattle.step_rewrite.specs.Rewriting.{smaller_text}
+use Rattle.conformance.specs.SchemaMeanings.{Said}
+use Rattle.schema_constraints.specs.declared.finding.RuleFinding.{RuleFinding}
+use Rattle.file_findings.specs.Findings.{AreFindings, ConformsWhereNothingIsFound}
+use Rattle.step_structures.specs.MergedTexts.{merged_text}
+use Rattle.step_structures.proofs.Bounded.{names_within}
+use Rattle.merge_theorems.specs.Headline.{IsMergeInput, IsMergeOf, MergesAreLeast}
+use Rattle.merge_theorems.proofs.Headed.{file_names, of_file}
+use Rattle.merge_theorems.proofs.Whole.{merged_files_are_least}
+use Rattle.merge_tables.specs.steps.Merges.{AreTablesOf}
+use Rattle.merge_output.specs.steps.Rewriting.{smaller_text}
 use Rattle.certificate_text.specs.Texts.{certificate_text, IsHeld}
 use Rattle.checking.specs.Reporting.{IsReport}
-use Rattle.shrinking.specs.Shrinking.{IsClean, IsMerged, IsCertified, IsDone}
+use Rattle.shrinking.specs.Shrinking.{IsClean, IsMergedFile, IsCertified, IsDone}
 use Rattle.shrinking.specs.declared.summary.Summary.{Summary}
 use Rattle.shrinking.proofs.Counted.{classes_counted, classes_few}
 
@@ -43,7 +43,7 @@ members_within (m ∷ ms) h = All-cons (λ (m : ℕ × ℕ). m.0 < 2 ^ 64) m ms 
 -- as many instances as names
 pub as_many : (x : Exchange) (n : ℕ) → n ≡ length x.names → n ≡ length (rows_of (structure x).sections)
 as_many x n e =
-    e ∙ ap length (sym (names-are x)) ∙ length-map (rows_of (structure x).sections) (λ (r : trees.Row). r.name)
+    e ∙ ap length (sym (names-are x)) ∙ length-map (rows_of (structure x).sections) (λ (r : trees.ExchangeRow). r.name)
 
 pub same_findings : (s : Schema) (f : File) (fs : List Finding) (gs : List RuleFinding) (n unknown : ℕ) → fs ≡ []
     → gs ≡ [] → n ≡ unknown → AreFindings s f [] [] unknown → AreFindings s f fs gs n
@@ -62,7 +62,7 @@ pub record IsTabled (s : Schema) (chosen : List Name) (bytes : List ℕ) (x : Ex
 module _ (s : Schema) (chosen : List Name) (bytes : List ℕ) (x : Exchange) (unknown : ℕ) (first second : Table)
     (conforming : ConformsWhereNothingIsFound) (least : MergesAreLeast)
     (tabled : IsTabled s chosen bytes x unknown first second) where
-  input : (said : Said s) → IsInput s said chosen bytes
+  input : (said : Said s) → IsMergeInput s said chosen bytes
   input said =
       let t = tabled.tables said in
       record {
@@ -90,7 +90,7 @@ module _ (s : Schema) (chosen : List Name) (bytes : List ℕ) (x : Exchange) (un
             (structure x).sections) t.second_is.members;
       }
 
-  merged : IsMerged s chosen bytes (smaller_text x second)
+  merged : IsMergedFile s chosen bytes (smaller_text x second)
   merged = record {
     some_said = tabled.found.0;
     merge = merge;
@@ -103,7 +103,7 @@ module _ (s : Schema) (chosen : List Name) (bytes : List ℕ) (x : Exchange) (un
   rows_many said =
       let t = tabled.tables said in
       sym (length-map t.rows (λ (r : Row). r.name)) ∙ ap length (file_names s said chosen bytes (input said))
-      ∙ length-map (rows_of (structure x).sections) (λ (r : trees.Row). r.name)
+      ∙ length-map (rows_of (structure x).sections) (λ (r : trees.ExchangeRow). r.name)
 
   rows_few : (said : Said s) → length (tabled.tables said).rows < 2 ^ 32
   rows_few said =

@@ -15,31 +15,31 @@ use Rattle.express_syntax.specs.declared.fault.SchemaFault.TheVariants as schema
 use Rattle.schema_semantics.specs.Names.{Name}
 use Rattle.schema_semantics.specs.Parts.{AreUnchecked}
 use Rattle.schema_semantics.proofs.Listed.{unchecked-are-one}
-use Rattle.schema_parts.specs.Adding.{unchecked_in, unchecked_of}
-use Rattle.schema_parts.specs.declared.list.Unchecked.{Unchecked as Part}
+use Rattle.schema_unchecked_declarations.specs.UncheckedLists.{unchecked_in, unchecked_of}
+use Rattle.schema_unchecked_declarations.specs.declared.list.Unchecked.{Unchecked as Part}
 use Rattle.conformance.specs.Choices.{Choice, chosen_names, unknown_choice}
-use Rattle.conformance.specs.Said.{Said, FileConforms}
-use Rattle.check_findings.specs.Findings.{ConformsWhereNothingIsFound}
-use Rattle.step_equal.specs.Laws.{StandardIsUnique}
-use Rattle.step_equal.specs.Standard.{IsStandard}
-use Rattle.step_equal.specs.Tables.{Table}
+use Rattle.conformance.specs.SchemaMeanings.{Said, FileConforms}
+use Rattle.file_findings.specs.Findings.{ConformsWhereNothingIsFound}
+use Rattle.value_equality.specs.Laws.{StandardIsUnique}
+use Rattle.value_equality.specs.Standard.{IsStandard}
+use Rattle.value_equality.specs.Tables.{Table}
 use Rattle.certificate_text.specs.Texts.{certificate_text}
-use Rattle.merged_populations.specs.Headline.{IsInput, IsMergeOf}
-use Rattle.merged_populations.proofs.Once.{AreOne, inputs_once, merges_once}
+use Rattle.merge_theorems.specs.Headline.{IsMergeInput, IsMergeOf}
+use Rattle.merge_theorems.proofs.Once.{AreOne, inputs_once, merges_once}
 use Rattle.files.specs.declared.fault.Role.TheVariants as roles
 use Rattle.reports.specs.Lines.{report_text}
 use Rattle.reports.specs.declared.report.Report.{Report}
-use Rattle.faults.specs.SameFaults.{SameFault}
-use Rattle.faults.specs.declared.fault.Fault.{Fault}
-use Rattle.faults.specs.declared.fault.Fault.TheVariants as faults
-use Rattle.checking.specs.Checks.{HasSchema, HasSchemaFault, HasFile, HasFileFault}
+use Rattle.reports.specs.SameFaults.{SameFault}
+use Rattle.reports.specs.declared.fault.Fault.{Fault}
+use Rattle.reports.specs.declared.fault.Fault.TheVariants as faults
+use Rattle.checking.specs.Checks.{IsResolvedSchemaText, HasSchemaFault, HasFile, HasFileFault}
 use Rattle.checking.specs.Laws.{IsOfTexts}
 use Rattle.checking.specs.Reporting.{IsReport, ReportsAreOne}
 use Rattle.checking.proofs.Once.{parts-one}
 use Rattle.checking.proofs.Texts.{no_schema_fault, schemas_once, schema_faults_once, no_file_fault, files_once, file_faults_once}
 use Rattle.shrinking.specs.declared.summary.Summary.{Summary}
-use Rattle.shrinking.specs.Shrinking.{IsClean, IsDone, AreUnwritten, Passes, IsUnknown, Answers}
-use Rattle.shrinking.specs.Laws.{SayTheSame, AnswersAreOne}
+use Rattle.shrinking.specs.Shrinking.{IsClean, IsDone, AreUnwritten, Passes, IsUnknownChoice, ShrinkAnswers}
+use Rattle.shrinking.specs.Laws.{SummariesSayTheSame, ShrinkAnswersAreOne}
 use Rattle.shrinking.proofs.Refusing.{none_unchecked}
 
 abbrev kept_of : File → ℕ
@@ -111,7 +111,7 @@ module _ (s : Schema) (chosen : List Name) (bytes output certificate again recer
   rounds_once : m.rounds ≡ n.rounds
   rounds_once = done.reported.rounds ∙ ap last_of (sym second_once) ∙ sym redone.reported.rounds
 
-  done_once : SayTheSame (Ok m) (Ok n) × (again ≡ output) × (recertified ≡ certificate)
+  done_once : SummariesSayTheSame (Ok m) (Ok n) × (again ≡ output) × (recertified ≡ certificate)
   done_once = (
     (reports_once, kept_once, rounds_once),
     (merges_once s said chosen bytes output again merge remerge).0,
@@ -138,7 +138,7 @@ module _ (c : Choice) (strict : Bool) (text bytes : List ℕ) where
     -- the names that are chosen
     abbrev AtChoice : Schema → Type 0
     AtChoice s =
-        (((f : SchemaFault) × (r ≡ Err (faults.Schema f)) × IsUnknown s c f) × AreUnwritten output certificate)
+        (((f : SchemaFault) × (r ≡ Err (faults.Schema f)) × IsUnknownChoice s c f) × AreUnwritten output certificate)
         ⊎ ((unknown_choice s c ≡ None) × AtFile s)
 
     -- the parts of the schema that aren't checked
@@ -152,10 +152,10 @@ module _ (c : Choice) (strict : Bool) (text bytes : List ℕ) where
     abbrev AtSchema : Type 0
     AtSchema =
         (((f : SchemaFault) × (r ≡ Err (faults.Schema f)) × HasSchemaFault f text) × AreUnwritten output certificate)
-        ⊎ ((s : Schema) × HasSchema s text × AtParts s)
+        ⊎ ((s : Schema) × IsResolvedSchemaText s text × AtParts s)
 
   reached : (output certificate : List ℕ) (r : Result Summary Fault)
-      → Answers c strict text bytes output certificate r → IsOfTexts r → AtSchema output certificate r
+      → ShrinkAnswers c strict text bytes output certificate r → IsOfTexts r → AtSchema output certificate r
   reached o k (Ok m) h j =
       inr (h.0, h.1, inr (h.2, inr (h.3, inr (h.4.reported.file, h.4.reported.has_file, inr (m, refl, h.4)))))
   reached o k (Err (faults.Schema f)) (inl h, none) j = inl ((f, refl, h), none)
@@ -174,7 +174,7 @@ module _ (c : Choice) (strict : Bool) (text bytes : List ℕ) where
   reached o k (Err faults.Memory) h j = absurd j
 
   -- one chosen name is the first that is no entity
-  names_once : (s : Schema) (f g : SchemaFault) → IsUnknown s c f → IsUnknown s c g → SameFault f g
+  names_once : (s : Schema) (f g : SchemaFault) → IsUnknownChoice s c f → IsUnknownChoice s c g → SameFault f g
   names_once s (schemas.Name kind name) (schemas.Name other again) h k =
       let names : Some (string_bytes name) ≡ Some (string_bytes again) = sym h.1 ∙ k.1 in (h.0 ∙ sym k.0, (cc))
   names_once s (schemas.Name kind name) (schemas.Text fault place) h k = absurd k
@@ -182,7 +182,7 @@ module _ (c : Choice) (strict : Bool) (text bytes : List ℕ) where
   names_once s (schemas.Text fault place) g h k = absurd h
   names_once s schemas.Memory g h k = absurd h
 
-  not_unknown : (s : Schema) → unknown_choice s c ≡ None → (f : SchemaFault) → IsUnknown s c f → ⊥
+  not_unknown : (s : Schema) → unknown_choice s c ≡ None → (f : SchemaFault) → IsUnknownChoice s c f → ⊥
   not_unknown s known (schemas.Name kind name) h = absurd (let clash = sym known ∙ h.1 in cc)
   not_unknown s known (schemas.Text kind place) h = h
   not_unknown s known schemas.Memory h = h
@@ -192,21 +192,21 @@ module _ (c : Choice) (strict : Bool) (text bytes : List ℕ) where
       → IsDone s (chosen_names s c) bytes output certificate m → HasFile f bytes → IsReport s f p → IsClean p
   merged_is_clean law s f output certificate m p done has report =
       let said : Said s = done.merged.some_said in
-      let input : IsInput s said (chosen_names s c) bytes = (done.merged.merge said).input in
+      let input : IsMergeInput s said (chosen_names s c) bytes = (done.merged.merge said).input in
       let one = reads_once bytes input.header_bytes has.header_bytes input.file f input.reads has.reads in
       (law s said f p.findings.items p.rule_findings.items p.unknown report.findings).1
       (subst (FileConforms s said) one.1 input.conforms)
 
   -- what two answers say is what they are
-  says : (r q x y : Result Summary Fault) → r ≡ x → q ≡ y → SayTheSame x y → SayTheSame r q
-  says r q x y e d h = subst (λ z. SayTheSame z q) (sym e) (subst (SayTheSame x) (sym d) h)
+  says : (r q x y : Result Summary Fault) → r ≡ x → q ≡ y → SummariesSayTheSame x y → SummariesSayTheSame r q
+  says r q x y e d h = subst (λ z. SummariesSayTheSame z q) (sym e) (subst (SummariesSayTheSame x) (sym d) h)
 
   module _ (output certificate again recertified : List ℕ) (r q : Result Summary Fault) (reports : ReportsAreOne)
       (tables : StandardIsUnique) (law : ConformsWhereNothingIsFound) where
     abbrev AreTheSame : Type 0
-    AreTheSame = SayTheSame r q × (again ≡ output) × (recertified ≡ certificate)
+    AreTheSame = SummariesSayTheSame r q × (again ≡ output) × (recertified ≡ certificate)
 
-    neither : SayTheSame r q → AreUnwritten output certificate → AreUnwritten again recertified → AreTheSame
+    neither : SummariesSayTheSame r q → AreUnwritten output certificate → AreUnwritten again recertified → AreTheSame
     neither h a b = (h, b.0 ∙ sym a.0, b.1 ∙ sym a.1)
 
     at_found : (s : Schema) (f : File) → HasFile f bytes → AtFound output certificate r s f
@@ -259,7 +259,7 @@ module _ (c : Choice) (strict : Bool) (text bytes : List ℕ) where
     at_schema (inr a) (inr b) =
         at_parts a.0 a.2 (subst (λ s. AtParts again recertified q s) (schemas_once text b.0 a.0 b.1 a.1) b.2)
 
-pub answers_are_one : ReportsAreOne → StandardIsUnique → ConformsWhereNothingIsFound → AnswersAreOne
+pub answers_are_one : ReportsAreOne → StandardIsUnique → ConformsWhereNothingIsFound → ShrinkAnswersAreOne
 answers_are_one reports tables law c strict text bytes output certificate again recertified r q h k i j =
     at_schema c strict text bytes output certificate again recertified r q reports tables law
     (reached c strict text bytes output certificate r h i) (reached c strict text bytes again recertified q k j)

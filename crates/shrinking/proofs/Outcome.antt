@@ -4,19 +4,19 @@ use Rattle.std.proofs.Common.{refl, sym, ◌∙◌, subst}
 use Rattle.step_structures.specs.Texts.{ReadsAs}
 use Rattle.step_exchange.specs.Exchanges.{structure}
 use Rattle.step_exchange.specs.declared.structure.Exchange.{Exchange}
-use Rattle.step_equal.specs.TableViews.{table_of}
-use Rattle.step_equal.specs.declared.table.Table.{Table}
+use Rattle.value_equality.specs.TableViews.{table_of}
+use Rattle.value_equality.specs.declared.table.Table.{Table}
 use Rattle.express_syntax.specs.Schemas.{Schema}
 use Rattle.schema_semantics.specs.Names.{Name}
-use Rattle.check_findings.specs.Findings.{AreFindings}
-use Rattle.check_findings.specs.declared.findings.Found.{Found}
-use Rattle.merge_tables.specs.Merges.{Merges, last_of}
-use Rattle.merge_tables.specs.declared.merging.Merging.{Merging}
-use Rattle.merge_tables.specs.declared.merging.Merging.TheVariants.{Faulty, Clean}
+use Rattle.file_findings.specs.Findings.{AreFindings}
+use Rattle.file_findings.specs.declared.findings.Found.{Found}
+use Rattle.merge_tables.specs.steps.Merges.{Merges, last_of}
+use Rattle.merge_tables.specs.declared.file_merge.Merging.{Merging}
+use Rattle.merge_tables.specs.declared.file_merge.Merging.TheVariants.{Faulty, Clean}
 use Rattle.reports.specs.declared.report.Report.{Report}
-use Rattle.faults.specs.declared.fault.Fault.TheVariants.{Findings}
+use Rattle.reports.specs.declared.fault.Fault.TheVariants.{Findings}
 use Rattle.checking.specs.Reporting.{IsReport}
-use Rattle.shrinking.specs.ComputedAnswers.{FileShrinks}
+use Rattle.shrinking.specs.steps.ComputedAnswers.{FileShrinks}
 use Rattle.shrinking.proofs.Answering.{idle, unwritten}
 use Rattle.shrinking.proofs.Merging.{IsTabled}
 

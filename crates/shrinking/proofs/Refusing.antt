@@ -5,10 +5,10 @@ use Rattle.std.proofs.Math.Logic.{∥∥₁_elim}
 use Rattle.express_syntax.specs.Schemas.{Schema}
 use Rattle.schema_semantics.specs.Parts.{AreUnchecked}
 use Rattle.schema_semantics.proofs.Listed.{unchecked-are-one}
-use Rattle.schema_parts.specs.Adding.{unchecked_in}
-use Rattle.schema_parts.specs.declared.list.Unchecked.{Unchecked}
+use Rattle.schema_unchecked_declarations.specs.UncheckedLists.{unchecked_in}
+use Rattle.schema_unchecked_declarations.specs.declared.list.Unchecked.{Unchecked}
 use Rattle.shrinking.specs.Shrinking.{Passes}
-use Rattle.shrinking.specs.ComputedAnswers.{IsRefused}
+use Rattle.shrinking.specs.steps.ComputedAnswers.{IsRefused}
 
 none_in : (us : List Unchecked) → unchecked_in us ≡ [] → us ≡ []
 none_in [] e = refl

@@ -1,4 +1,4 @@
--- The laws of what is answered and written.
+-- Laws of what `shrink` returns and writes.
 use Rattle.std.specs.Prelude.{◌≡◌, ◌<◌, ◌^◌, ℕ, Bool, List, length, flat_map, Some, Result, Ok, Err}
 use Rattle.step_structures.specs.declared.fault.FaultKind.{FaultKind}
 use Rattle.step_structures.specs.Trees.{File}
@@ -8,22 +8,23 @@ use Rattle.conformance.specs.Choices.{Choice}
 use Rattle.files.specs.declared.fault.Role.TheVariants as roles
 use Rattle.reports.specs.Lines.{unchecked_line, report_text}
 use Rattle.reports.specs.declared.report.Report.{Report}
-use Rattle.faults.specs.SameFaults.{SameFault}
-use Rattle.faults.specs.declared.fault.Fault.{Fault}
-use Rattle.faults.specs.declared.fault.Fault.TheVariants as faults
+use Rattle.reports.specs.SameFaults.{SameFault}
+use Rattle.reports.specs.declared.fault.Fault.{Fault}
+use Rattle.reports.specs.declared.fault.Fault.TheVariants as faults
 use Rattle.checking.specs.Checks.{HasFile, HasFileFault}
 use Rattle.checking.specs.Laws.{IsOfTexts}
 use Rattle.checking.specs.Reporting.{IsReport}
 use Rattle.shrinking.specs.declared.summary.Summary.{Summary}
-use Rattle.shrinking.specs.Shrinking.{IsClean, IsMerged, Answers, Shrinks, written_anew}
+use Rattle.shrinking.specs.Shrinking.{IsClean, IsMergedFile, ShrinkAnswers, Shrinks, written_anew}
 
--- What is written has no fault, but that it may be too large, and nothing is found of it.
+-- An output has no findings. Its text has no fault, except that it may be larger than 2^40 bytes.
 abbrev pub OwnOutputsPass : Type 0
-OwnOutputsPass = (s : Schema) (chosen : List Name) (bytes output : List ℕ) → IsMerged s chosen bytes output
+OwnOutputsPass = (s : Schema) (chosen : List Name) (bytes output : List ℕ) → IsMergedFile s chosen bytes output
     → ((kind : FaultKind) (place : ℕ) → HasFileFault kind place output → 2 ^ 40 < length output)
     × ((f : File) (r : Report) → HasFile f output → IsReport s f r → IsClean r)
 
--- A run on an output ends for want of memory, by a device or since it is too large, or it writes the same output.
+-- Merging an output again writes the same output, or fails: memory runs out, a device fails or the output is too
+-- large.
 abbrev pub Stays : List ℕ → List ℕ → Result Summary Fault → Type 0
 Stays output again (Ok m) = again ≡ output
 Stays output again (Err (faults.Text roles.File kind place)) = 2 ^ 40 < length output
@@ -31,13 +32,13 @@ Stays output again (Err (faults.Device role written)) = Unit {0}
 Stays output again (Err faults.Memory) = Unit {0}
 Stays output again (Err f) = ⊥
 
-abbrev pub SecondRunsStay : Type 0
-SecondRunsStay =
+abbrev pub SecondShrinksStay : Type 0
+SecondShrinksStay =
     (c : Choice) (strict : Bool) (text bytes output certificate again recertified : List ℕ) (m : Summary)
-    (result : Result Summary Fault) → Answers c strict text bytes output certificate (Ok m)
-    → Answers c strict text output again recertified result → Stays output again result
+    (result : Result Summary Fault) → ShrinkAnswers c strict text bytes output certificate (Ok m)
+    → ShrinkAnswers c strict text output again recertified result → Stays output again result
 
--- The same where sources tell the texts, and sinks that held nothing hold what was written.
+-- Merging an output again writes the same output, for sources that reveal their texts and sinks that were empty.
 abbrev pub SecondFilesStay : Type 0
 SecondFilesStay =
     (c : Choice) (strict : Bool) (schema file output certificate again recertified : List ℕ) (m : Summary)
@@ -46,32 +47,34 @@ SecondFilesStay =
     → Shrinks c strict (Some schema) (Some output) (written_anew again) (written_anew recertified) result
     → Stays output again result
 
--- Two answers say the same: merges with reports of the same lines, as many instances and rounds, or the same fault. Of a
--- schema of which parts aren't checked they list as many parts, with the same lines.
-abbrev pub SayTheSame : Result Summary Fault → Result Summary Fault → Type 0
-SayTheSame (Ok m) (Ok n) = (report_text m.report ≡ report_text n.report) × (m.kept ≡ n.kept) × (m.rounds ≡ n.rounds)
-SayTheSame (Err (faults.Schema f)) (Err (faults.Schema g)) = SameFault f g
-SayTheSame (Err (faults.Unchecked us)) (Err (faults.Unchecked vs)) =
+-- Two results say the same. Either both are merges, with equal lines of the reports and equal numbers of instances
+-- and rounds, or both are the same fault. For a schema with unchecked parts, both list equally many parts with
+-- equal lines.
+abbrev pub SummariesSayTheSame : Result Summary Fault → Result Summary Fault → Type 0
+SummariesSayTheSame (Ok m) (Ok n) = (report_text m.report ≡ report_text n.report) × (m.kept ≡ n.kept) × (m.rounds ≡ n.rounds)
+SummariesSayTheSame (Err (faults.Schema f)) (Err (faults.Schema g)) = SameFault f g
+SummariesSayTheSame (Err (faults.Unchecked us)) (Err (faults.Unchecked vs)) =
     (flat_map unchecked_line us.items ≡ flat_map unchecked_line vs.items) × (length us.items ≡ length vs.items)
-SayTheSame (Err (faults.Text role kind place)) (Err (faults.Text other fault elsewhere)) =
+SummariesSayTheSame (Err (faults.Text role kind place)) (Err (faults.Text other fault elsewhere)) =
     (role ≡ other) × (kind ≡ fault) × (place ≡ elsewhere)
-SayTheSame (Err (faults.Findings r)) (Err (faults.Findings q)) = report_text r ≡ report_text q
-SayTheSame r q = ⊥
+SummariesSayTheSame (Err (faults.Findings r)) (Err (faults.Findings q)) = report_text r ≡ report_text q
+SummariesSayTheSame r q = ⊥
 
--- No two texts and choice have two answers, two outputs or two certificates, but that a device's fault or want of memory
--- may come in their place.
-abbrev pub AnswersAreOne : Type 0
-AnswersAreOne =
+-- Any two runs on the same texts and choice return the same. They also write the same output and certificate. The
+-- exception is a device's fault and out of memory.
+abbrev pub ShrinkAnswersAreOne : Type 0
+ShrinkAnswersAreOne =
     (c : Choice) (strict : Bool) (text bytes output certificate again recertified : List ℕ)
-    (r q : Result Summary Fault) → Answers c strict text bytes output certificate r
-    → Answers c strict text bytes again recertified q → IsOfTexts r → IsOfTexts q
-    → SayTheSame r q × (again ≡ output) × (recertified ≡ certificate)
+    (r q : Result Summary Fault) → ShrinkAnswers c strict text bytes output certificate r
+    → ShrinkAnswers c strict text bytes again recertified q → IsOfTexts r → IsOfTexts q
+    → SummariesSayTheSame r q × (again ≡ output) × (recertified ≡ certificate)
 
--- The same where sources tell the texts, and sinks that held nothing hold what was written.
+-- Any two runs on the same texts and choice return and write the same, if the sources reveal their texts and the
+-- sinks were empty. The exception is a device's fault and out of memory.
 abbrev pub FilesAreOne : Type 0
 FilesAreOne =
     (c : Choice) (strict : Bool) (schema file output certificate again recertified : List ℕ)
     (r q : Result Summary Fault)
     → Shrinks c strict (Some schema) (Some file) (written_anew output) (written_anew certificate) r
     → Shrinks c strict (Some schema) (Some file) (written_anew again) (written_anew recertified) q
-    → IsOfTexts r → IsOfTexts q → SayTheSame r q × (again ≡ output) × (recertified ≡ certificate)
+    → IsOfTexts r → IsOfTexts q → SummariesSayTheSame r q × (again ≡ output) × (recertified ≡ certificate)

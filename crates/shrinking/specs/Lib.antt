@@ -1,4 +1,3 @@
 pub mod Shrinking
 pub mod Laws
-pub mod Faults
-pub mod ComputedAnswers
+pub mod steps

@@ -1,4 +1,4 @@
--- What `shrink` answers to the texts of a schema and of a file, and what it writes.
+-- What `shrink` returns for the texts of a schema and of a file, and what it writes.
 use Rattle.std.specs.Prelude.{◌≡◌, ◌≢◌, ◌≤◌, ◌-◌, ◌^◌, ◌++◌, ◌⊎◌, ℕ, min, Bool, true, List, [], length, Option, None, Some, IfSome, Result, Ok, Err}
 use Rattle.std.specs.Io.KnownBytes.{Appends}
 use Rattle.step_structures.specs.Trees.{File, rows_of}
@@ -7,23 +7,23 @@ use Rattle.express_syntax.specs.declared.fault.SchemaFault.{SchemaFault}
 use Rattle.express_syntax.specs.declared.fault.SchemaFault.TheVariants as schemas
 use Rattle.schema_semantics.specs.Names.{Name}
 use Rattle.schema_semantics.specs.Parts.{AreUnchecked}
-use Rattle.schema_parts.specs.Adding.{unchecked_in}
+use Rattle.schema_unchecked_declarations.specs.UncheckedLists.{unchecked_in}
 use Rattle.conformance.specs.Choices.{Choice, chosen_names, unknown_choice}
-use Rattle.conformance.specs.Said.{Said}
-use Rattle.pin_choices.specs.Chosen.{IsChoiceFault}
-use Rattle.step_equal.specs.Tables.{Table}
-use Rattle.step_equal.specs.Standard.{IsStandard}
+use Rattle.conformance.specs.SchemaMeanings.{Said}
+use Rattle.merge_choices.specs.ChosenEntities.{IsChoiceFault}
+use Rattle.value_equality.specs.Tables.{Table}
+use Rattle.value_equality.specs.Standard.{IsStandard}
 use Rattle.certificate_text.specs.Texts.{IsCertificate}
-use Rattle.merged_populations.specs.Headline.{IsMergeOf, IsLeast}
+use Rattle.merge_theorems.specs.Headline.{IsMergeOf, IsLeast}
 use Rattle.files.specs.declared.fault.Role.TheVariants as roles
 use Rattle.reports.specs.declared.report.Report.{Report}
-use Rattle.faults.specs.declared.fault.Fault.{Fault}
-use Rattle.faults.specs.declared.fault.Fault.TheVariants as faults
+use Rattle.reports.specs.declared.fault.Fault.{Fault}
+use Rattle.reports.specs.declared.fault.Fault.TheVariants as faults
 use Rattle.checking.specs.Reporting.{IsReport}
-use Rattle.checking.specs.Checks.{HasSchema, HasSchemaFault, HasFile, HasFileFault}
+use Rattle.checking.specs.Checks.{IsResolvedSchemaText, HasSchemaFault, HasFile, HasFileFault}
 use Rattle.shrinking.specs.declared.summary.Summary.{Summary}
 
--- What a sink held before a call, and what it holds behind it, where it tells that.
+-- What a sink held before a call, and what it holds after it, if it reveals that.
 pub record Written : Type 0 where
   pub before : Option (List ℕ)
   pub after : Option (List ℕ)
@@ -31,25 +31,26 @@ pub record Written : Type 0 where
 abbrev pub written_to : {S : Type 0} → (S → Option (List ℕ)) → S → S → Written
 written_to held old new = record { before = held old; after = held new }
 
--- a sink that held nothing holds these bytes
+-- a sink that was empty holds these bytes
 abbrev pub written_anew : List ℕ → Written
 written_anew bytes = record { before = Some []; after = Some bytes }
 
--- nothing is found of the file
+-- the report has no findings
 abbrev pub IsClean : Report → Type 0
 IsClean r = (r.findings.items ≡ []) × (r.rule_findings.items ≡ [])
 
--- What is merged: the input conforms, the output is its text with exactly its value-equal instances merged, pinned ones
--- told by identity; it reads as their quotient, conforms too, and no image has fewer instances. That holds whichever
--- functions are those of the schema, and there are some.
-pub record IsMerged (s : Schema) (chosen : List Name) (bytes output : List ℕ) : Type 0 where
+-- What is merged. The input conforms, and the output is its text with exactly its value-equal instances merged;
+-- pinned instances are distinguished by identity. The output reads as the quotient of the input and conforms too,
+-- and no image of the input has fewer instances. This holds under every meaning of the schema, and the schema has
+-- one.
+pub record IsMergedFile (s : Schema) (chosen : List Name) (bytes output : List ℕ) : Type 0 where
   pub some_said : Said s
   pub merge : (said : Said s) → IsMergeOf s said chosen bytes output
   pub least : (said : Said s) → IsLeast s said chosen bytes output (merge said)
 
--- What is certified: the certificate is that of the two tables that partition refinement makes of the instances, by the
--- weak pins and by the pins.
-pub record IsCertified (s : Schema) (chosen : List Name) (bytes output : List ℕ) (merged : IsMerged s chosen bytes output)
+-- What is certified. The certificate is that of the two tables that partition refinement makes of the instances: by
+-- the weak pins, and by the pins.
+pub record IsCertified (s : Schema) (chosen : List Name) (bytes output : List ℕ) (merged : IsMergedFile s chosen bytes output)
     (first second : Table) (certificate : List ℕ) : Type 0 where
   pub first_is : (said : Said s)
       → IsStandard (merged.merge said).input.rows (merged.merge said).input.pins.weak first
@@ -57,9 +58,9 @@ pub record IsCertified (s : Schema) (chosen : List Name) (bytes output : List �
       → IsStandard (merged.merge said).input.rows (merged.merge said).input.pinned second
   pub certificate_is : IsCertificate certificate first second
 
--- What is reported: the report of the file, of which nothing is found, as many instances as the output has, and the rounds
--- of the second table. Neither table has more rounds than the file has instances.
-pub record IsReported (s : Schema) (chosen : List Name) (bytes output : List ℕ) (merged : IsMerged s chosen bytes output)
+-- What is reported: the report on the file, which has no findings, the number of the output's instances, and the
+-- rounds of the second table. Neither table has more rounds than the file has instances.
+pub record IsReported (s : Schema) (chosen : List Name) (bytes output : List ℕ) (merged : IsMergedFile s chosen bytes output)
     (first second : Table) (m : Summary) : Type 0 where
   pub file : File
   pub has_file : HasFile file bytes
@@ -70,17 +71,17 @@ pub record IsReported (s : Schema) (chosen : List Name) (bytes output : List ℕ
   pub first_few : first.rounds ≤ m.report.instances
   pub second_few : second.rounds ≤ m.report.instances
 
--- By a schema, of which these entities are chosen, this is the output of a file of these bytes, this its certificate, and
--- this is said of it.
+-- A file of these bytes, merged according to a schema of which these entity data types are chosen, has this output,
+-- this certificate and this summary.
 pub record IsDone (s : Schema) (chosen : List Name) (bytes output certificate : List ℕ) (m : Summary) : Type 0 where
-  pub merged : IsMerged s chosen bytes output
+  pub merged : IsMergedFile s chosen bytes output
   pub first : Table
   pub second : Table
   pub certified : IsCertified s chosen bytes output merged first second certificate
   pub reported : IsReported s chosen bytes output merged first second m
 
--- a front of a text was written, of so many bytes, as far as 2^64 - 1
-pub record IsFront (sent text : List ℕ) (written : ℕ) : Type 0 where
+-- `sent` is the prefix of the text that was written; `written` is its length, at most 2^64 - 1.
+pub record IsWrittenPrefix (sent text : List ℕ) (written : ℕ) : Type 0 where
   pub left : List ℕ
   pub text_is : text ≡ sent ++ left
   pub count : written ≡ min (length sent) (2 ^ 64 - 1)
@@ -89,8 +90,9 @@ pub record IsFront (sent text : List ℕ) (written : ℕ) : Type 0 where
 abbrev pub AreUnwritten : List ℕ → List ℕ → Type 0
 AreUnwritten output certificate = (output ≡ []) × (certificate ≡ [])
 
--- What is answered to a file of these bytes, where the entities that are chosen of the schema are these, and what is
--- written as output and as certificate: nothing but where all is checked, and the certificate behind all of the output.
+-- What is returned for a file of these bytes, if these entity data types of the schema are chosen, and what is
+-- written as output and as certificate. Nothing is written unless the whole file is checked, and the certificate is
+-- written after all of the output.
 abbrev pub FileAnswers : Schema → List Name → List ℕ → List ℕ → List ℕ → Result Summary Fault → Type 0
 FileAnswers s chosen bytes output certificate (Ok m) = IsDone s chosen bytes output certificate m
 FileAnswers s chosen bytes output certificate (Err (faults.Text roles.File kind place)) =
@@ -101,39 +103,40 @@ FileAnswers s chosen bytes output certificate (Err (faults.Device roles.File wri
     (written ≡ 0) × AreUnwritten output certificate
 FileAnswers s chosen bytes output certificate (Err (faults.Device roles.Output written)) =
     (whole : List ℕ) × (certified : List ℕ) × (m : Summary) × IsDone s chosen bytes whole certified m
-    × IsFront output whole written × (certificate ≡ [])
+    × IsWrittenPrefix output whole written × (certificate ≡ [])
 FileAnswers s chosen bytes output certificate (Err (faults.Device roles.Certificate written)) =
-    (whole : List ℕ) × (m : Summary) × IsDone s chosen bytes output whole m × IsFront certificate whole written
+    (whole : List ℕ) × (m : Summary) × IsDone s chosen bytes output whole m × IsWrittenPrefix certificate whole written
 FileAnswers s chosen bytes output certificate (Err faults.Memory) = AreUnwritten output certificate
 FileAnswers s chosen bytes output certificate (Err f) = ⊥
 
--- where the choice is strict, all of the schema is checked
+-- if the choice is strict, all of the schema is checked
 abbrev pub Passes : Bool → Schema → Type 0
 Passes strict s = strict ≡ true → ∥ AreUnchecked s [] ∥₁
 
--- The first chosen name that is no entity is this, in capitals.
-abbrev pub IsUnknown : Schema → Choice → SchemaFault → Type 0
-IsUnknown s c (schemas.Name kind name) = IsChoiceFault s c (schemas.Name kind name)
-IsUnknown s c f = ⊥
+-- The fault is that of the first chosen name that isn't an entity data type of the schema, in capitals.
+abbrev pub IsUnknownChoice : Schema → Choice → SchemaFault → Type 0
+IsUnknownChoice s c (schemas.Name kind name) = IsChoiceFault s c (schemas.Name kind name)
+IsUnknownChoice s c f = ⊥
 
--- What is answered to a schema of this text and a file of these bytes. A fault of the schema comes before that of a strict
--- choice, that before a chosen name that is no entity, and all of them before what is said of the file.
-abbrev pub Answers : Choice → Bool → List ℕ → List ℕ → List ℕ → List ℕ → Result Summary Fault → Type 0
-Answers c strict text bytes output certificate (Err (faults.Schema f)) =
-    (HasSchemaFault f text ⊎ ((s : Schema) × HasSchema s text × Passes strict s × IsUnknown s c f))
+-- What is returned for a schema of this text and a file of these bytes. A fault of the schema precedes that of a
+-- strict choice, which precedes a chosen name that isn't an entity data type. All of these precede everything about
+-- the file.
+abbrev pub ShrinkAnswers : Choice → Bool → List ℕ → List ℕ → List ℕ → List ℕ → Result Summary Fault → Type 0
+ShrinkAnswers c strict text bytes output certificate (Err (faults.Schema f)) =
+    (HasSchemaFault f text ⊎ ((s : Schema) × IsResolvedSchemaText s text × Passes strict s × IsUnknownChoice s c f))
     × AreUnwritten output certificate
-Answers c strict text bytes output certificate (Err (faults.Unchecked us)) =
-    ((s : Schema) × HasSchema s text × (strict ≡ true) × ∥ AreUnchecked s (unchecked_in us.items) ∥₁ × (us.items ≢ []))
+ShrinkAnswers c strict text bytes output certificate (Err (faults.Unchecked us)) =
+    ((s : Schema) × IsResolvedSchemaText s text × (strict ≡ true) × ∥ AreUnchecked s (unchecked_in us.items) ∥₁ × (us.items ≢ []))
     × AreUnwritten output certificate
-Answers c strict text bytes output certificate (Err (faults.Device roles.Schema written)) =
+ShrinkAnswers c strict text bytes output certificate (Err (faults.Device roles.Schema written)) =
     (written ≡ 0) × AreUnwritten output certificate
-Answers c strict text bytes output certificate (Err faults.Memory) = AreUnwritten output certificate
-Answers c strict text bytes output certificate r =
-    (s : Schema) × HasSchema s text × Passes strict s × (unknown_choice s c ≡ None)
+ShrinkAnswers c strict text bytes output certificate (Err faults.Memory) = AreUnwritten output certificate
+ShrinkAnswers c strict text bytes output certificate r =
+    (s : Schema) × IsResolvedSchemaText s text × Passes strict s × (unknown_choice s c ≡ None)
     × FileAnswers s (chosen_names s c) bytes output certificate r
 
--- That is answered of texts which are those that are to come, where the sources tell them, and what is written stands
--- behind what the sinks held, where they tell that.
+-- What `shrink` returns. The texts are the bytes to come, if the sources reveal them. What is written follows what
+-- the sinks held, if they reveal that.
 pub record Shrinks (c : Choice) (strict : Bool) (schema file : Option (List ℕ)) (to_output to_certificate : Written)
     (result : Result Summary Fault) : Type 0 where
   pub text : List ℕ
@@ -142,6 +145,6 @@ pub record Shrinks (c : Choice) (strict : Bool) (schema file : Option (List ℕ)
   pub certificate : List ℕ
   pub text_is : IfSome schema (λ t. t ≡ text)
   pub bytes_are : IfSome file (λ b. b ≡ bytes)
-  pub answers : Answers c strict text bytes output certificate result
+  pub answers : ShrinkAnswers c strict text bytes output certificate result
   pub written : Appends to_output.before to_output.after output
   pub certified : Appends to_certificate.before to_certificate.after certificate

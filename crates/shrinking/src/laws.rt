@@ -1,52 +1,56 @@
-//! Laws of what is answered and written.
+//! Laws of what `shrink` returns and writes.
 
 ghost use Rattle.shrinking.specs.Laws.{
-  AnswersAreOne,
+  ShrinkAnswersAreOne,
   FilesAreOne,
   OwnOutputsPass,
   SecondFilesStay,
-  SecondRunsStay,
+  SecondShrinksStay,
 };
 
-use check_findings::laws::conforms_where_nothing_is_found;
 use checking::laws::reports_are_one;
-use merged_populations::laws::second_merges_stay;
-use step_equal::laws::the_standard_table_is_unique;
+use file_findings::laws::conforms_where_nothing_is_found;
+use merge_theorems::merged_file_laws::second_merges_stay;
+use value_equality::laws::the_standard_table_is_unique;
 
-/// What is written has no fault, but that it may be too large, and nothing is found of it.
+/// An output of `shrink` has no findings. Its text has no fault, except that it may be too large to
+/// be read.
 pub fn own_outputs_pass()
     ensures { OwnOutputsPass }
 {
     conforms_where_nothing_is_found();
 }
 
-/// A run on what a run wrote, by the same schema and choice, writes the same output; or it ends for
-/// want of memory, by a device, or since that is too large to be read.
+/// Merging an output again, with the same schema and choice, writes the same output. It fails only
+/// if memory runs out, a device fails or the output is too large to be read.
 pub fn second_runs_stay()
-    ensures { SecondRunsStay }
+    ensures { SecondShrinksStay }
 {
     own_outputs_pass();
     second_merges_stay();
 }
 
-/// The same where two sources tell the texts, and two sinks that held nothing hold what was written.
+/// Merging an output again, with the same schema and choice, writes the same output. This states
+/// `second_runs_stay` for sources that reveal their texts and sinks that were empty.
 pub fn second_files_stay()
     ensures { SecondFilesStay }
 {
     second_runs_stay();
 }
 
-/// No two texts and choice have two answers, two outputs or two certificates, but that a device's
-/// fault, or want of memory, may come in their place.
+/// Any two runs on the same texts and choice return the same. They also write the same output and
+/// certificate. The exception is a run in which a device fails or memory runs out.
 pub fn answers_are_one()
-    ensures { AnswersAreOne }
+    ensures { ShrinkAnswersAreOne }
 {
     reports_are_one();
     the_standard_table_is_unique();
     conforms_where_nothing_is_found();
 }
 
-/// The same where two sources tell the texts, and two sinks that held nothing hold what was written.
+/// Any two runs on the same texts and choice return the same and write the same bytes, except a run
+/// in which a device fails or memory runs out. This states `answers_are_one` for sources that
+/// reveal their texts and sinks that were empty.
 pub fn files_are_one()
     ensures { FilesAreOne }
 {

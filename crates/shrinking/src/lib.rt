@@ -1,5 +1,5 @@
-//! Merging the value-equal instances of a file by its schema: the smaller file and its certificate, from the bytes of
-//! both.
+//! Merging the value-equal instances of a file according to its schema: the smaller file and its certificate,
+//! from the bytes of schema and file.
 #![tactic(auto)]
 
 pub mod laws;

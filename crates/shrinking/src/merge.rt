@@ -1,39 +1,43 @@
-//! Merging an exchange structure by its schema.
+//! Merging an exchange structure according to its schema.
 
 ghost use Rattle.std.specs.Prelude.{◌≡◌, ◌≤◌, ◌^◌, ℕ, List, [], false, length};
 ghost use Rattle.schema_names.specs.Schemas.{the_schema};
-ghost use Rattle.express_types.specs.Sound.{IsSound};
+ghost use Rattle.schema_resolution.specs.SoundGraphs.{IsSound};
 ghost use Rattle.schema_semantics.specs.Names.{Name};
-ghost use Rattle.step_equal.specs.TableViews.{table_of};
+ghost use Rattle.value_equality.specs.TableViews.{table_of};
 ghost use Rattle.step_structures.specs.Texts.{ReadsAs};
 ghost use Rattle.step_exchange.specs.Exchanges.{structure};
-ghost use Rattle.pin_choices.specs.Chosen.{AreChosen};
-ghost use Rattle.check_findings.specs.Findings.{AreFindings};
+ghost use Rattle.merge_choices.specs.ChosenEntities.{AreChosen};
+ghost use Rattle.file_findings.specs.Findings.{AreFindings};
 ghost use Rattle.checking.specs.Reporting.{IsReport};
 ghost use Rattle.files.specs.declared.fault.Role.TheVariants as roles;
-ghost use Rattle.faults.specs.Devices.{is_device};
-ghost use Rattle.shrinking.specs.ComputedAnswers.{FileShrinks};
+ghost use Rattle.reports.specs.Devices.{is_device};
+ghost use Rattle.shrinking.specs.steps.ComputedAnswers.{FileShrinks};
 ghost use Rattle.shrinking.specs.Shrinking.{IsClean, written_to};
 
 use crate::summary::Summary;
 use crate::write::write_both;
-use check_findings::findings::Found;
-use check_findings::laws::conforms_where_nothing_is_found;
 use devices::device::Sink;
-use express_rules::report::RuleReport;
-use express_types::graph::TypeGraph;
-use faults::fault::{Fault, of_file};
-use merge_tables::merging::{Merging, last_of, merge_tables};
-use merged_populations::laws::merges_are_least;
-use pin_choices::choice::Chosen;
+use file_findings::findings::Found;
+use file_findings::laws::conforms_where_nothing_is_found;
+use merge_choices::choice::Chosen;
+use merge_tables::file_merge::{Merging, last_of, merge_tables};
+use merge_theorems::merged_file_laws::merges_are_least;
+use reports::fault::{Fault, of_file};
 use reports::report::Report;
+use rule_outcomes::report::RuleReport;
+use schema_resolution::resolved_schema::ResolvedSchema;
 use std::alloc::Global;
 use std::hash::RandomState;
-use step_equal::table::Table;
 use step_exchange::structure::Exchange;
+use value_equality::table::Table;
 
-/// What is said of a file of which this is found.
-fn report<'s>(graph: TypeGraph<'s, '_>, found: Found<'s>, exchange: &Exchange<'_>) -> Report<'s>
+/// Returns the report on a file with these findings.
+fn report<'s>(
+    graph: ResolvedSchema<'s, '_>,
+    found: Found<'s>,
+    exchange: &Exchange<'_>,
+) -> Report<'s>
     ensures report { AreFindings (the_schema graph.entry.types.names)
         (structure exchange.now) found.entry.findings.items found.entry.rules.findings.items
         found.entry.rules.unknown
@@ -56,8 +60,8 @@ fn report<'s>(graph: TypeGraph<'s, '_>, found: Found<'s>, exchange: &Exchange<'_
     }
 }
 
-/// What is found of a file of which nothing is, but that for so many pairs of an instance and a
-/// domain rule it isn't known whether the instance keeps the rule.
+/// Returns the findings of a file that has none, with the number of UNKNOWN pairs of an instance
+/// and a domain rule.
 fn nothing_found<'s>(alloc: Global, unknown: u64) -> Found<'s>
     ensures findings { result.findings.items ≡ [] }
     ensures rules { result.rules.findings.items ≡ [] }
@@ -72,10 +76,10 @@ fn nothing_found<'s>(alloc: Global, unknown: u64) -> Found<'s>
     }
 }
 
-/// What is said of a file that is merged by this table.
+/// Returns the summary of merging a file by the table that decides the merge.
 fn summary<'s>(
     alloc: Global,
-    graph: TypeGraph<'s, '_>,
+    graph: ResolvedSchema<'s, '_>,
     exchange: &Exchange<'_>,
     unknown: u64,
     second: &Table,
@@ -95,12 +99,12 @@ fn summary<'s>(
     }
 }
 
-/// Writes the smaller file of an exchange structure, and its certificate, where nothing is found of
-/// it.
+/// Writes the smaller file of an exchange structure, and its certificate, if the file has no
+/// findings.
 pub(crate) fn shrink_exchange<'s: 'a, 'a, O: Sink, C: Sink>(
     alloc: Global,
     keys: RandomState,
-    graph: TypeGraph<'s, '_>,
+    graph: ResolvedSchema<'s, '_>,
     chosen: &Chosen,
     exchange: &Exchange<'a>,
     out: &mut O,

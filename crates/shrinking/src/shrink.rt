@@ -13,25 +13,25 @@ ghost use Rattle.std.specs.Prelude.{
   length,
 };
 ghost use Rattle.schema_names.specs.Schemas.{the_schema};
-ghost use Rattle.express_types.specs.Sound.{IsSound};
+ghost use Rattle.schema_resolution.specs.SoundGraphs.{IsSound};
 ghost use Rattle.schema_semantics.specs.Names.{Name};
-ghost use Rattle.pin_choices.specs.Chosen.{AreChosen, choice_of};
-ghost use Rattle.checking.specs.Checks.{HasSchema};
+ghost use Rattle.merge_choices.specs.ChosenEntities.{AreChosen, choice_of};
+ghost use Rattle.checking.specs.Checks.{IsResolvedSchemaText};
 ghost use Rattle.files.specs.declared.fault.Role.TheVariants as roles;
-ghost use Rattle.faults.specs.Devices.{FileFailsAs, is_device};
-ghost use Rattle.shrinking.specs.ComputedAnswers.{FileShrinks, IsRefused, SourceShrinks};
+ghost use Rattle.reports.specs.Devices.{FileFailsAs, is_device};
+ghost use Rattle.shrinking.specs.steps.ComputedAnswers.{FileShrinks, IsRefused, SourceShrinks};
 ghost use Rattle.shrinking.specs.Shrinking.{Passes, Shrinks, written_to};
 
 use crate::merge::shrink_exchange;
 use crate::summary::Summary;
 use devices::device::{Sink, Source};
-use express_text::read_schema;
-use express_types::graph::TypeGraph;
-use express_types::resolving::resolve;
-use faults::fault::{Fault, of_file, of_schema, too_large, unread};
+use express_reader::read_schema;
 use files::fault::{FileFault, LIMIT, Role};
 use files::read::read_whole;
-use pin_choices::choice::{Choice, Chosen};
+use merge_choices::choice::{Choice, Chosen};
+use reports::fault::{Fault, of_file, of_schema, too_large, unread};
+use schema_resolution::resolution::resolve;
+use schema_resolution::resolved_schema::ResolvedSchema;
 use std::alloc::Global;
 use std::hash::RandomState;
 use step_exchange::exchange::read_exchange;
@@ -40,7 +40,7 @@ use step_exchange::exchange::read_exchange;
 fn shrink_file<'s, O: Sink, C: Sink>(
     alloc: Global,
     keys: RandomState,
-    graph: TypeGraph<'s, '_>,
+    graph: ResolvedSchema<'s, '_>,
     chosen: &Chosen,
     bytes: &[u8],
     out: &mut O,
@@ -66,11 +66,11 @@ fn shrink_file<'s, O: Sink, C: Sink>(
     }
 }
 
-/// Merges the file of a source.
+/// Reads the file from a source and merges it.
 fn shrink_source<'s, F: Source, O: Sink, C: Sink>(
     alloc: Global,
     keys: RandomState,
-    graph: TypeGraph<'s, '_>,
+    graph: ResolvedSchema<'s, '_>,
     chosen: &Chosen,
     file: &mut F,
     out: &mut O,
@@ -97,26 +97,27 @@ fn shrink_source<'s, F: Source, O: Sink, C: Sink>(
     }
 }
 
-/// Whether a choice refuses a schema, since not all of it is checked.
-fn is_refused(choice: &Choice, graph: &TypeGraph<'_, '_>) -> bool
+/// Whether a strict choice refuses a schema because parts of it aren't checked.
+fn is_refused(choice: &Choice, graph: &ResolvedSchema<'_, '_>) -> bool
     ensures { MatchBool result (IsRefused choice.now.strict (the_schema graph.now.types.names))
         (Passes choice.now.strict (the_schema graph.now.types.names)) }
 {
     choice.strict && !graph.unchecked().is_empty()
 }
 
-/// Merges the file of a source by a schema whose names are resolved.
+/// Merges the file of a source according to a schema whose names are resolved.
 fn shrink_graph<'s, F: Source, O: Sink, C: Sink>(
     alloc: Global,
     keys: RandomState,
-    graph: TypeGraph<'s, '_>,
+    graph: ResolvedSchema<'s, '_>,
     choice: &Choice,
     file: &mut F,
     out: &mut O,
     certificate: &mut C,
 ) -> Result<Summary<'s>, Fault<'s>>
     requires sound { IsSound graph }
-    ensures shrinks { (text : List ℕ) → HasSchema (the_schema graph.entry.types.names) text
+    ensures shrinks { (text : List ℕ) → IsResolvedSchemaText
+        (the_schema graph.entry.types.names) text
         → Shrinks (choice_of choice.now) choice.now.strict (Some text) (F.to_come file.old)
         (written_to O.held out.old out.new) (written_to C.held certificate.old certificate.new)
         result }
@@ -138,7 +139,7 @@ fn shrink_graph<'s, F: Source, O: Sink, C: Sink>(
     }
 }
 
-/// Merges the file of a source by a schema of these bytes.
+/// Merges the file of a source according to a schema of these bytes.
 fn shrink_by<'s, F: Source, O: Sink, C: Sink>(
     alloc: Global,
     keys: RandomState,
@@ -171,25 +172,28 @@ fn shrink_by<'s, F: Source, O: Sink, C: Sink>(
     }
 }
 
-/// Merges exactly the value-equal instances of a file by its schema, those of the chosen entities
-/// that nothing pins: writes the smaller file to `out`, and behind all of it the certificate of that
-/// to `certificate`. The smaller file conforms to the schema as the file does, and no image of the
-/// file has fewer instances.
+/// Merges exactly the value-equal instances of a file: those of the chosen entity data types that
+/// nothing pins. Writes the smaller file to `out` and then its certificate to `certificate`.
 ///
-/// The schema is given by its text; the file is read to its end once nothing is wrong with the schema
-/// and the choice. The error is the first of these, and nothing was written where it is none of the
-/// last two:
+/// The smaller file conforms to the schema as the file does, and no image of the file has fewer
+/// instances. The file is read to its end if schema and choice have no fault. Names are hashed with
+/// `keys`.
 ///
-/// - `Schema`: the text of the schema has a fault, or a name in it;
-/// - `Unchecked`: the choice is strict, and parts of the schema aren't checked;
-/// - `Schema` with `UnknownName`: a chosen name is no entity of the schema;
-/// - `Text` of the file: its text isn't read;
-/// - `Findings`: the file breaks its schema;
-/// - `Device` of the output: a front of the smaller file was written;
-/// - `Device` of the certificate: the smaller file was written, and a front of the certificate.
+/// # Errors
+/// The first of these; before the last two, nothing was written:
 ///
-/// `Device` of the file comes where that is read and its source fails, and `Memory` where memory runs
-/// out. A text of more than 2^40 bytes has a fault. Names are hashed by these keys.
+/// - `Schema` if the text of the schema has a fault or is larger than 2^40 bytes, or a name in it
+///   is at fault.
+/// - `Unchecked` if the choice is strict and parts of the schema aren't checked.
+/// - `Schema` with `UnknownName` if a chosen name isn't an entity data type of the schema.
+/// - `Device` of the file if its source fails.
+/// - `Text` of the file if its text has a fault or is larger than 2^40 bytes.
+/// - `Findings` if the file breaks its schema.
+/// - `Device` of the output if its sink fails; a prefix of the smaller file was written.
+/// - `Device` of the certificate if its sink fails; the smaller file and a prefix of the
+///   certificate were written.
+///
+/// `Memory` if memory runs out, at any time; nothing was written then.
 pub fn shrink<'s, F: Source, O: Sink, C: Sink>(
     alloc: Global,
     keys: RandomState,
@@ -199,11 +203,11 @@ pub fn shrink<'s, F: Source, O: Sink, C: Sink>(
     out: &mut O,
     certificate: &mut C,
 ) -> Result<Summary<'s>, Fault<'s>>
-    // What is answered and written is what the two texts and the choice say.
+    // The result and what is written are those that the two texts and the choice have.
     ensures shrinks { Shrinks (choice_of choice.now) choice.now.strict
         (Some schema.now) (F.to_come file.old) (written_to O.held out.old out.new)
         (written_to C.held certificate.old certificate.new) result }
-    // The fault is a device's exactly where that one failed.
+    // The fault is that of a device exactly if the device failed.
     ensures no_schema_fault { is_device roles.Schema result ≡ false }
     ensures file_fault { F.has_failed file.old ≡ false
         → F.has_failed file.new ≡ is_device roles.File result }
@@ -211,7 +215,7 @@ pub fn shrink<'s, F: Source, O: Sink, C: Sink>(
         → O.has_failed out.new ≡ is_device roles.Output result }
     ensures certificate_fault { C.has_failed certificate.old ≡ false
         → C.has_failed certificate.new ≡ is_device roles.Certificate result }
-    // A source that can't fail has no fault, and one that can't but fail has one where it is read.
+    // A source that can't fail has no fault. One that always fails has one if it is read.
     ensures file_told { IfSome (F.fails file.old) (FileFailsAs result) }
 {
     if schema.len() as u64 > LIMIT {

@@ -1,14 +1,14 @@
-//! What is said of a file that is merged.
+//! The summary of a merge.
 
 use reports::report::Report;
 
-/// What is said of a file that is merged.
+/// The summary of a merge.
 #[derive(Drop)]
 pub struct Summary<'s> {
-    /// What is said of the file that is read: nothing is found of it.
+    /// The report on the file that was read, which has no findings.
     pub report: Report<'s>,
-    /// How many instances the smaller file has.
+    /// The number of instances in the smaller file.
     pub kept: u64,
-    /// The last round of the table by which instances are merged.
+    /// The last round of the table that decides the merge.
     pub rounds: u32,
 }

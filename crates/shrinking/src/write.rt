@@ -1,25 +1,25 @@
 //! Writing the smaller file and its certificate.
 
 ghost use Rattle.std.specs.Prelude.{◌≡◌, false};
-ghost use Rattle.step_equal.specs.TableViews.{table_of};
+ghost use Rattle.value_equality.specs.TableViews.{table_of};
 ghost use Rattle.files.specs.declared.fault.Role.TheVariants as roles;
-ghost use Rattle.step_rewrite.specs.Rewriting.{members, smaller_text};
+ghost use Rattle.merge_output.specs.steps.Rewriting.{members, smaller_text};
 ghost use Rattle.certificate_text.specs.Texts.{certificate_text};
-ghost use Rattle.shrinking.specs.ComputedAnswers.{Writes, is_written};
-ghost use Rattle.shrinking.specs.Faults.{rewrite_fault};
+ghost use Rattle.shrinking.specs.steps.ComputedAnswers.{Writes, is_written};
+ghost use Rattle.shrinking.specs.steps.Faults.{rewrite_fault};
 ghost use Rattle.shrinking.specs.Shrinking.{written_to};
 
 use certificate_text::write::write_certificate;
 use devices::device::Sink;
 use files::fault::{FileFault, Role};
+use merge_output::fault::RewriteFault;
+use merge_output::rewrite::rewrite;
 use std::alloc::Global;
 use std::hash::RandomState;
-use step_equal::table::Table;
 use step_exchange::structure::Exchange;
-use step_rewrite::fault::RewriteFault;
-use step_rewrite::rewrite::rewrite;
+use value_equality::table::Table;
 
-/// The fault where the smaller file isn't written.
+/// Returns the fault of a smaller file that isn't written.
 fn of_rewrite(fault: RewriteFault) -> FileFault
     ensures { result ≡ rewrite_fault fault }
 {
@@ -32,8 +32,8 @@ fn of_rewrite(fault: RewriteFault) -> FileFault
     }
 }
 
-/// Writes the smaller file of an exchange structure by the second table, and behind all of it the
-/// certificate of both. Names are hashed by these keys.
+/// Writes the smaller file of an exchange structure by the second table, then the certificate of
+/// both tables. Names are hashed with `keys`.
 pub(crate) fn write_both<O: Sink, C: Sink>(
     alloc: Global,
     keys: RandomState,

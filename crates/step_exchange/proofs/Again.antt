@@ -1,11 +1,11 @@
 -- The trees that are kept of a structure are that structure.
 use Rattle.std.proofs.Common.{◌≡◌, ℕ, List, [], ◌∷◌, ◌++◌, length, take, drop, map, refl, sym, ap, ◌∙◌}
 use Rattle.std.proofs.lemmas.List.{take_at, drop_at}
-use Rattle.step_records.specs.Building.{list_of}
+use Rattle.step_records.specs.steps.Building.{list_of}
 use Rattle.step_records.proofs.Parts.{trees_all, all_in}
-use Rattle.step_structures.specs.Trees.{Tree, Record, Form, internal, external, Row}
-use Rattle.step_records.specs.Records.{tree_of_record, trees_of_form}
-use Rattle.step_records.specs.Instances.{names_of, tree_of_row}
+use Rattle.step_structures.specs.Trees.{Tree, Record, Form, internal, external, ExchangeRow}
+use Rattle.step_records.specs.steps.Records.{tree_of_record, trees_of_form}
+use Rattle.step_records.specs.steps.Instances.{names_of, tree_of_row}
 use Rattle.step_exchange.specs.declared.section.Section as code
 use Rattle.step_exchange.specs.Views.{record_in, form_of, form_in, rows_with}
 use Rattle.step_exchange.specs.Sections.{sections_of, file_of}
@@ -25,11 +25,11 @@ form_trees (external (p ∷ ps)) = ap external (records_again (p ∷ ps))
 form_again : (f : Form) → form_in (list_of (trees_of_form f)) ≡ f
 form_again f = ap form_of (trees_all (trees_of_form f)) ∙ form_trees f
 
-pub rows_again : (rs : List Row) → rows_with (names_of rs) (map tree_of_row rs) ≡ rs
+pub rows_again : (rs : List ExchangeRow) → rows_with (names_of rs) (map tree_of_row rs) ≡ rs
 rows_again [] = refl
 rows_again (r ∷ rs) = λ i. record { name = r.name; form = form_again r.form i } ∷ rows_again rs i
 
-pub file_again : (header : List Record) (rows : List Row) (ss : List code.Section) (n : ℕ) (xs : List Tree)
+pub file_again : (header : List Record) (rows : List ExchangeRow) (ss : List code.Section) (n : ℕ) (xs : List Tree)
     (names : List ℕ) → xs ≡ map tree_of_record header ++ map tree_of_row rows → n ≡ length (map tree_of_record header)
     → names ≡ names_of rows
     → file_of n xs names ss ≡ record { header = header; sections = sections_of 0 ss rows }

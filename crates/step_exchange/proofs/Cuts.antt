@@ -1,7 +1,7 @@
 -- Instances cut into data sections.
 use Rattle.std.proofs.Common.{◌≡◌, ℕ, ◌+◌, ◌-◌, ◌<◌, zero, suc, add-one, get_or, List, [], ◌∷◌, ◌++◌, length, take, drop, refl, sym, ap, ◌∙◌, subst, append_assoc, append-nil, length-append, arith}
 use Rattle.step_exchange.specs.declared.section.Section as code
-use Rattle.step_structures.specs.Trees.{Tree, Row, Section, rows_of}
+use Rattle.step_structures.specs.Trees.{Tree, ExchangeRow, Section, rows_of}
 use Rattle.step_exchange.specs.Views.{form_in, rows_with}
 use Rattle.step_exchange.specs.Sections.{CountsTo, heading_of, sections_of}
 
@@ -11,15 +11,15 @@ Cut from [] [] = Unit {0}
 Cut from (s ∷ ss) (x ∷ xs) = (heading_of s.heading ≡ x.heading) × (s.past ≡ from + length x.rows) × Cut s.past ss xs
 Cut from _ _ = ⊥
 
-taken : (a b : List Row) → take (length a) (a ++ b) ≡ a
+taken : (a b : List ExchangeRow) → take (length a) (a ++ b) ≡ a
 taken [] b = refl
 taken (x ∷ a) b = ap (λ l. x ∷ l) (taken a b)
 
-dropped : (a b : List Row) → drop (length a) (a ++ b) ≡ b
+dropped : (a b : List ExchangeRow) → drop (length a) (a ++ b) ≡ b
 dropped [] b = refl
 dropped (x ∷ a) b = dropped a b
 
--- .. so they are these sections
+-- sections that are cut where these say are these sections
 pub cut_is : (from : ℕ) (ss : List code.Section) (xs : List Section) → Cut from ss xs
     → sections_of from ss (rows_of xs) ≡ xs
 cut_is from [] [] h = refl
@@ -34,7 +34,7 @@ cut_is from (s ∷ ss) (x ∷ xs) h =
     let more = ap (λ l. sections_of s.past ss l) back ∙ cut_is s.past ss xs h.2 in
     λ i. record { heading = h.0 i; rows = front i } ∷ more i
 
--- .. and count them
+-- sections that are cut where these say count to the number of their instances
 pub cut_counts : (from : ℕ) (ss : List code.Section) (xs : List Section) → Cut from ss xs
     → CountsTo from ss (from + length (rows_of xs))
 cut_counts from [] [] h = omega arith

@@ -1,27 +1,27 @@
 -- The data sections, and what is kept of them.
 use Rattle.std.proofs.Common.{◌≡◌, ℕ, ◌<◌, ◌≤◌, List, [], ◌∷◌, ◌++◌, length, map, Option, refl, sym, ap, ◌∙◌, subst, append_assoc, append-nil, arith, codes}
 use Rattle.std.proofs.lemmas.List.{length-map, map-append}
-use Rattle.step_lexis.specs.declared.token.Mark.TheVariants.{Semicolon}
-use Rattle.step_lexis.specs.declared.token.Token.{Token}
-use Rattle.step_lexis.specs.Reading.{Takes, left}
+use Rattle.step_lexer.specs.declared.token.Mark.TheVariants.{Semicolon}
+use Rattle.step_lexer.specs.declared.token.Token.{Token}
+use Rattle.step_lexer.specs.Reading.{Takes, left}
 use Rattle.step_structures.specs.declared.fault.TextFault.{TextFault}
 use Rattle.step_structures.specs.declared.fault.TextFault.TheVariants as faults
 use Rattle.step_structures.specs.Words.{ends, mark, token, located}
-use Rattle.step_structures.specs.Trees.{Tree, Row, this, finish, section, items_of_rows}
+use Rattle.step_structures.specs.Trees.{Tree, ExchangeRow, this, finish, section, items_of_rows}
 use Rattle.step_structures.specs.Fits.{the_rules, FitsRows}
-use Rattle.step_structures.specs.Predict.{Just, Sections, Rows, EndOfText, refused, data_symbols}
-use Rattle.step_records.specs.Readers.{Progress, reading}
-use Rattle.step_records.specs.Steps.{StopsIn, Passes}
-use Rattle.step_records.specs.Instances.{names_of, tree_of_row, TakesRows, StopsInRows}
+use Rattle.step_structures.specs.steps.Predict.{Just, Sections, Rows, EndOfText, refused, data_symbols}
+use Rattle.step_records.specs.steps.Readers.{Progress, reading}
+use Rattle.step_records.specs.steps.Steps.{StopsIn, Passes}
+use Rattle.step_records.specs.steps.Instances.{names_of, tree_of_row, TakesRows, StopsInRows}
 use Rattle.step_exchange.specs.declared.section.Section as code
 use Rattle.step_exchange.specs.Sections.{CountsTo, heading_of}
-use Rattle.step_exchange.specs.Steps.{BeginsSection}
-use Rattle.step_exchange.specs.Keeping.{KeepsData}
+use Rattle.step_exchange.specs.steps.Steps.{BeginsSection}
+use Rattle.step_exchange.specs.steps.Keeping.{KeepsData}
 use Rattle.step_exchange.proofs.DataSteps.{SectionsSoFar, RowsRead, sections_start, sections_err_token, sections_err_none, sections_err_end, sections_err_begin, sections_err_rows, sections_done, sections_next, sections_smaller, rows_few}
 
 -- the sections so far, with instances of these names
 pub record DataSoFar (old : Progress) (ss : List code.Section) (names : List ℕ) (here : Progress) : Type 0 where
-  pub rows : List Row
+  pub rows : List ExchangeRow
   pub named : names ≡ names_of rows
   pub keeps : here.built ≡ record old.built { kept = old.built.kept ++ map tree_of_row rows }
   pub so : SectionsSoFar (reading old) ss rows (reading here)
@@ -62,7 +62,7 @@ pub data_done : (old : Progress) (ss : List code.Section) (names : List ℕ) (he
     → KeepsData ss names old b
 data_done old ss names here t a b d h e is some f m =
     let done = sections_done (reading old) ss d.rows (reading here) t (reading a) (reading b) d.so h is some m in
-    let many : length d.rows ≡ length names = sym (ap length d.named ∙ length-map d.rows (λ (r : Row). r.name)) in
+    let many : length d.rows ≡ length names = sym (ap length d.named ∙ length-map d.rows (λ (r : ExchangeRow). r.name)) in
     record {
       rows = d.rows;
       named = d.named;
@@ -79,7 +79,7 @@ data_err_begin e old ss names here t a d h g =
     let P : List ℕ → Type 0 = λ l. StopsIn e (Sections (length ss) l ∷ []) (located t ∷ []) (reading a) in
     sections_err_begin e (reading old) ss d.rows (reading here) t (reading a) d.so h (subst P d.named g)
 
-begins_as : (t : Token) (n : ℕ) (names : List ℕ) (rows : List Row) (heading : Option (List ℕ × List ℕ))
+begins_as : (t : Token) (n : ℕ) (names : List ℕ) (rows : List ExchangeRow) (heading : Option (List ℕ × List ℕ))
     (a b : Progress) → names ≡ names_of rows → BeginsSection (located t) n names heading (reading a) (reading b)
     → BeginsSection (located t) n (names_of rows) heading (reading a) (reading b)
 begins_as t n names rows heading a b e g =
@@ -96,12 +96,12 @@ data_err_rows e old ss names here t a b heading d h g stop =
     (begins_as t (length ss) names d.rows heading a b d.named g) (subst P d.named stop)
 
 -- what the reader of instances read
-rows_read : (names after : List ℕ) (rows : List Row) (b c : Progress) → names ≡ names_of rows
+rows_read : (names after : List ℕ) (rows : List ExchangeRow) (b c : Progress) → names ≡ names_of rows
     → (lines : TakesRows names after b c)
     → (after ≡ names_of (rows ++ lines.rows)) × RowsRead rows lines.rows (reading b) (reading c)
 rows_read names after rows b c e lines =
     let all : after ≡ names_of (rows ++ lines.rows) = lines.are ∙ ap (λ l. l ++ names_of lines.rows) e
-    ∙ sym (map-append (λ (r : Row). r.name) rows lines.rows) in
+    ∙ sym (map-append (λ (r : ExchangeRow). r.name) rows lines.rows) in
     let P : List ℕ → Type 0 = λ l. FitsRows the_rules l lines.rows in
     let body = items_of_rows lines.rows ++ section (codes "ENDSEC") in
     let Q : ℕ → List ℕ → List ℕ → Type 0 = λ n l k. Passes (Rows n l ∷ []) (Sections n k ∷ []) [] body (reading b)
@@ -121,7 +121,7 @@ data_few old ss names after here b c d lines =
       arith,
       rows_few (reading old) ss d.rows (reading here) lines.rows (reading b) (reading c) d.so read.1,
       ap length read.0,
-      length-map (d.rows ++ lines.rows) (λ (r : Row). r.name),
+      length-map (d.rows ++ lines.rows) (λ (r : ExchangeRow). r.name),
     )
 
 pub data_next : (old : Progress) (ss : List code.Section) (names after : List ℕ) (here : Progress)
@@ -132,7 +132,7 @@ pub data_next : (old : Progress) (ss : List code.Section) (names after : List �
 data_next old ss names after here t a b c s d h e g f lines past =
     let read = rows_read names after d.rows b c d.named lines in
     let k = old.built.kept in
-    let size = ap length read.0 ∙ length-map (d.rows ++ lines.rows) (λ (r : Row). r.name) in
+    let size = ap length read.0 ∙ length-map (d.rows ++ lines.rows) (λ (r : ExchangeRow). r.name) in
     let from : b.built ≡ record old.built { kept = k ++ map tree_of_row d.rows } = f ∙ e ∙ d.keeps in
     let all : (k ++ map tree_of_row d.rows) ++ map tree_of_row lines.rows ≡ k ++ map tree_of_row (d.rows ++ lines.rows) =
     append_assoc k (map tree_of_row d.rows) (map tree_of_row lines.rows)
@@ -147,7 +147,7 @@ data_next old ss names after here t a b c s d h e g f lines past =
     }
 
 pub data_less : (n : ℕ) (names after : List ℕ) (here : Progress) (t : Token)
-    (heading : Option (List ℕ × List ℕ)) (a b c : Progress) (rows : List Row) → names ≡ names_of rows
+    (heading : Option (List ℕ × List ℕ)) (a b c : Progress) (rows : List ExchangeRow) → names ≡ names_of rows
     → Takes (reading here) t (reading a) → BeginsSection (located t) n names heading (reading a) (reading b)
     → TakesRows names after b c → length (left (reading c)) < length (left (reading here))
 data_less n names after here t heading a b c rows e h g lines =

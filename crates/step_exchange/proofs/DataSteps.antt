@@ -4,27 +4,27 @@ use Rattle.std.proofs.lemmas.Bool.{false≢true}
 use Rattle.std.proofs.lemmas.Bool.Decides.{nat_tests}
 use Rattle.parsing.proofs.Taking as taking
 use Rattle.step_literals.specs.declared.literal.Text as literal
-use Rattle.step_lexis.specs.declared.token.Mark.TheVariants.{Open, Semicolon}
-use Rattle.step_lexis.specs.declared.token.Sort.{Sort}
-use Rattle.step_lexis.specs.declared.token.Sort.TheVariants as sorts
-use Rattle.step_lexis.specs.declared.token.Token.{Token}
-use Rattle.step_lexis.specs.Reading.{Reading, Takes, IsAtEnd, left}
-use Rattle.step_lexis.proofs.ReadingLemmas.{takes_less}
+use Rattle.step_lexer.specs.declared.token.Mark.TheVariants.{Open, Semicolon}
+use Rattle.step_lexer.specs.declared.token.Sort.{Sort}
+use Rattle.step_lexer.specs.declared.token.Sort.TheVariants as sorts
+use Rattle.step_lexer.specs.declared.token.Token.{Token}
+use Rattle.step_lexer.specs.Reading.{Reading, Takes, IsAtEnd, left}
+use Rattle.step_lexer.proofs.ReadingLemmas.{takes_less}
 use Rattle.step_structures.specs.declared.fault.FaultKind.{FaultKind}
 use Rattle.step_structures.specs.declared.fault.FaultKind.TheVariants as kinds
 use Rattle.step_structures.specs.declared.fault.LeftOut.TheVariants as left_out
 use Rattle.step_structures.specs.declared.fault.TextFault.{TextFault}
 use Rattle.step_structures.specs.declared.fault.TextFault.TheVariants as faults
 use Rattle.step_structures.specs.Words.{Word, ends, keyword, string, mark, Lookahead, token, located, located_end, word_of, Shows, shows_end}
-use Rattle.step_structures.specs.Trees.{Row, Section, rows_of, Item, this, says, finish, MeetAll, section, items_of_rows, items_of_heading, items_of_section, items_of_sections, items_of_end}
+use Rattle.step_structures.specs.Trees.{ExchangeRow, Section, rows_of, Item, this, says, finish, MeetAll, section, items_of_rows, items_of_heading, items_of_section, items_of_sections, items_of_end}
 use Rattle.step_structures.specs.Fits.{the_rules, FitsRows}
-use Rattle.step_structures.specs.Predict.{Symbol, Just, Sections, Behind, Quoted, Rows, EndOfText, refused, is_mark, is_word, heading_symbols, data_symbols, table}
+use Rattle.step_structures.specs.steps.Predict.{Symbol, Just, Sections, Behind, Quoted, Rows, EndOfText, refused, is_mark, is_word, heading_symbols, data_symbols, table}
 use Rattle.step_exchange.specs.declared.section.Section as code
 use Rattle.step_exchange.specs.Sections.{CountsTo, heading_of, sections_of}
-use Rattle.step_records.specs.Readers.{Progress, reading}
-use Rattle.step_records.specs.Steps.{StopsIn, Passes, ParsesWhere}
-use Rattle.step_records.specs.Instances.{StopsInRows, names_of}
-use Rattle.step_exchange.specs.Steps.{TakesData, BeginsSection, section_refused}
+use Rattle.step_records.specs.steps.Readers.{Progress, reading}
+use Rattle.step_records.specs.steps.Steps.{StopsIn, Passes, ParsesWhere}
+use Rattle.step_records.specs.steps.Instances.{StopsInRows, names_of}
+use Rattle.step_exchange.specs.steps.Steps.{TakesData, BeginsSection, section_refused}
 use Rattle.step_structures.proofs.Meeting.{meets_is}
 use Rattle.step_records.proofs.Taking.{passes_here, passes_as, passes_join, passes_more, passes_then, passes_token, passes_taken, passes_first, passes_within, stops_behind, stops_behind_taken, stops_all, stops_token}
 use Rattle.step_records.proofs.Looking.{mark_met, meets_mark, word_met}
@@ -192,7 +192,7 @@ end_done (Ok u) a b c e m g = (g.0 ∙ e, passes_then m g.1)
 end_done (Err f) a b c e m g = stops_behind f (EndOfText ∷ []) [] (passes_more (EndOfText ∷ []) m) g
 
 -- the sections so far, with these instances, and others and the end of the file behind
-pub record SectionsSoFar (old : Reading) (ss : List code.Section) (rows : List Row) (here : Reading) : Type 0 where
+pub record SectionsSoFar (old : Reading) (ss : List code.Section) (rows : List ExchangeRow) (here : Reading) : Type 0 where
   pub sections : List Section
   pub cut : Cut 0 ss sections
   pub are : rows ≡ rows_of sections
@@ -213,13 +213,13 @@ sections_start r = record {
   passes = passes_here (Sections 0 [] ∷ []) r;
 }
 
-pub sections_err_token : (e : TextFault) (old : Reading) (ss : List code.Section) (rows : List Row) (here : Reading)
+pub sections_err_token : (e : TextFault) (old : Reading) (ss : List code.Section) (rows : List ExchangeRow) (here : Reading)
     → SectionsSoFar old ss rows here → StopsIn e (Sections (length ss) (names_of rows) ∷ []) [] here
     → StopsIn e data_symbols [] old
 sections_err_token e old ss rows here so g = stops_behind e (Sections (length ss) (names_of rows) ∷ []) [] so.passes g
 
 -- there is none yet
-pub sections_err_none : (e : TextFault) (old : Reading) (ss : List code.Section) (rows : List Row) (here : Reading)
+pub sections_err_none : (e : TextFault) (old : Reading) (ss : List code.Section) (rows : List ExchangeRow) (here : Reading)
     (t : Token) (a : Reading) → SectionsSoFar old ss rows here → Takes here t a → (located t).lookahead ≡ token ends
     → length ss ≡ 0 → e ≡ faults.Fault (refused (located t).lookahead) t.place → StopsIn e data_symbols [] old
 sections_err_none e old ss rows here t a so h is none q =
@@ -232,7 +232,7 @@ one_less : (n : ℕ) → (n ≡ 0 → ⊥) → (m : ℕ) × (n ≡ suc m)
 one_less zero h = absurd (h refl)
 one_less (suc n) h = (n, refl)
 
-ends_here : (old : Reading) (ss : List code.Section) (rows : List Row) (here : Reading) (t : Token) (a : Reading)
+ends_here : (old : Reading) (ss : List code.Section) (rows : List ExchangeRow) (here : Reading) (t : Token) (a : Reading)
     → (so : SectionsSoFar old ss rows here) → Takes here t a → (located t).lookahead ≡ token ends → (length ss ≡ 0 → ⊥)
     → Passes data_symbols (Just Semicolon ∷ EndOfText ∷ []) [] (items_of_sections so.sections ++ this ends ∷ []) old a
 ends_here old ss rows here t a so h is some =
@@ -241,13 +241,13 @@ ends_here old ss rows here t a so h is some =
     (this ends ∷ []) here a in
     passes_join so.passes (subst P (sym m.1) (passes_ends m.0 (names_of rows) t here a h is))
 
-pub sections_err_end : (e : TextFault) (old : Reading) (ss : List code.Section) (rows : List Row) (here : Reading)
+pub sections_err_end : (e : TextFault) (old : Reading) (ss : List code.Section) (rows : List ExchangeRow) (here : Reading)
     (t : Token) (a : Reading) → SectionsSoFar old ss rows here → Takes here t a → (located t).lookahead ≡ token ends
     → (length ss ≡ 0 → ⊥) → StopsIn e (Just Semicolon ∷ EndOfText ∷ []) [] a → StopsIn e data_symbols [] old
 sections_err_end e old ss rows here t a so h is some g = stops_behind e (Just Semicolon ∷ EndOfText ∷ []) []
     (ends_here old ss rows here t a so h is some) g
 
-pub sections_done : (old : Reading) (ss : List code.Section) (rows : List Row) (here : Reading) (t : Token)
+pub sections_done : (old : Reading) (ss : List code.Section) (rows : List ExchangeRow) (here : Reading) (t : Token)
     (a b : Reading) → SectionsSoFar old ss rows here → Takes here t a → (located t).lookahead ≡ token ends
     → (length ss ≡ 0 → ⊥) → Passes (Just Semicolon ∷ EndOfText ∷ []) [] [] (this (mark Semicolon) ∷ finish ∷ []) a b
     → TakesData (sections_of 0 ss rows) old b × CountsTo 0 ss (length rows)
@@ -272,20 +272,20 @@ sections_done old ss rows here t a b so h is some m =
     some_more zero g = absurd (g refl)
     some_more (suc n) g = omega arith
 
-pub sections_err_begin : (e : TextFault) (old : Reading) (ss : List code.Section) (rows : List Row) (here : Reading)
+pub sections_err_begin : (e : TextFault) (old : Reading) (ss : List code.Section) (rows : List ExchangeRow) (here : Reading)
     (t : Token) (a : Reading) → SectionsSoFar old ss rows here → Takes here t a
     → StopsIn e (Sections (length ss) (names_of rows) ∷ []) (located t ∷ []) a → StopsIn e data_symbols [] old
 sections_err_begin e old ss rows here t a so h g = stops_behind_taken e (Sections (length ss) (names_of rows) ∷ []) [] t
     so.passes h g
 
-begins_here : (old : Reading) (ss : List code.Section) (rows : List Row) (here : Reading) (t : Token) (a b : Reading)
+begins_here : (old : Reading) (ss : List code.Section) (rows : List ExchangeRow) (here : Reading) (t : Token) (a b : Reading)
     (heading : Option (List ℕ × List ℕ)) → (so : SectionsSoFar old ss rows here) → Takes here t a
     → BeginsSection (located t) (length ss) (names_of rows) heading a b
     → Passes data_symbols (Rows (suc (length ss)) (names_of rows) ∷ []) [] (items_of_sections so.sections
     ++ (says (codes "DATA") ∷ (items_of_heading heading ++ this (mark Semicolon) ∷ []))) old b
 begins_here old ss rows here t a b heading so h g = passes_join so.passes (passes_first t here h g.1)
 
-pub sections_err_rows : (e : TextFault) (old : Reading) (ss : List code.Section) (rows : List Row) (here : Reading)
+pub sections_err_rows : (e : TextFault) (old : Reading) (ss : List code.Section) (rows : List ExchangeRow) (here : Reading)
     (t : Token) (a b : Reading) (heading : Option (List ℕ × List ℕ)) → SectionsSoFar old ss rows here → Takes here t a
     → BeginsSection (located t) (length ss) (names_of rows) heading a b → StopsInRows e (names_of rows) b
     → StopsIn e data_symbols [] old
@@ -299,7 +299,7 @@ items_more (y ∷ xs) x = ap (λ l. items_of_section y ++ l) (items_more xs x)
     ∙ sym (append_assoc (items_of_section y) (items_of_sections xs) (items_of_section x))
 
 -- instances that fit behind others fit with them
-fits_join : (rs ts : List Row) (before : List ℕ) → FitsRows the_rules before rs
+fits_join : (rs ts : List ExchangeRow) (before : List ℕ) → FitsRows the_rules before rs
     → FitsRows the_rules (before ++ names_of rs) ts → FitsRows the_rules before (rs ++ ts)
 fits_join [] ts before f g = subst (λ l. FitsRows the_rules l ts) (append-nil before) g
 fits_join (r ∷ rs) ts before f g = (
@@ -311,7 +311,7 @@ fits_join (r ∷ rs) ts before f g = (
 )
 
 -- no more instances fit than may stand
-pub fits_few : (rs : List Row) (before : List ℕ) → length before ≤ the_rules.instances → FitsRows the_rules before rs
+pub fits_few : (rs : List ExchangeRow) (before : List ℕ) → length before ≤ the_rules.instances → FitsRows the_rules before rs
     → length before + length rs ≤ the_rules.instances
 fits_few [] before h f = omega (arith, h)
 fits_few (r ∷ rs) before h f =
@@ -320,19 +320,19 @@ fits_few (r ∷ rs) before h f =
     omega (arith, l, g)
 
 -- instances behind others, and the end of their section, whatever its number
-pub record RowsRead (before more : List Row) (old new : Reading) : Type 0 where
+pub record RowsRead (before more : List ExchangeRow) (old new : Reading) : Type 0 where
   pub fits : FitsRows the_rules (names_of before) more
   pub passes : (n : ℕ) → Passes (Rows n (names_of before) ∷ []) (Sections n (names_of (before ++ more)) ∷ []) []
       (items_of_rows more ++ section (codes "ENDSEC")) old new
 
-pub rows_few : (old : Reading) (ss : List code.Section) (rows : List Row) (here : Reading) (more : List Row)
+pub rows_few : (old : Reading) (ss : List code.Section) (rows : List ExchangeRow) (here : Reading) (more : List ExchangeRow)
     (b c : Reading) → SectionsSoFar old ss rows here → RowsRead rows more b c
     → length (rows ++ more) ≤ the_rules.instances
 rows_few old ss rows here more b c so read =
     let all = fits_few (rows ++ more) [] (omega arith) (fits_join rows more [] so.fits read.fits) in omega (arith, all)
 
-pub sections_next : (old : Reading) (ss : List code.Section) (rows : List Row) (here : Reading) (t : Token)
-    (a b c : Reading) (s : code.Section) (more : List Row) → SectionsSoFar old ss rows here → Takes here t a
+pub sections_next : (old : Reading) (ss : List code.Section) (rows : List ExchangeRow) (here : Reading) (t : Token)
+    (a b c : Reading) (s : code.Section) (more : List ExchangeRow) → SectionsSoFar old ss rows here → Takes here t a
     → BeginsSection (located t) (length ss) (names_of rows) (heading_of s.heading) a b → RowsRead rows more b c
     → s.past ≡ length (rows ++ more) → SectionsSoFar old (ss ++ s ∷ []) (rows ++ more) c
 sections_next old ss rows here t a b c s more so h g read past =
@@ -365,7 +365,7 @@ sections_next old ss rows here t a b c s more so h g read past =
 
 -- a section leaves less of the text
 pub sections_smaller : (here : Reading) (t : Token) (n : ℕ) (names : List ℕ) (heading : Option (List ℕ × List ℕ))
-    (a b c : Reading) (before more : List Row) → Takes here t a → BeginsSection (located t) n names heading a b
+    (a b c : Reading) (before more : List ExchangeRow) → Takes here t a → BeginsSection (located t) n names heading a b
     → RowsRead before more b c → length (left c) < length (left here)
 sections_smaller here t n names heading a b c before more h g read = omega (
   arith,

@@ -1,24 +1,24 @@
 -- The header, and what is kept of it.
 use Rattle.std.proofs.Common.{◌≡◌, ℕ, ◌<◌, Bool, true, false, List, [], ◌∷◌, ◌++◌, length, map, sym, ap, ◌∙◌, subst, append_assoc, codes}
 use Rattle.std.proofs.lemmas.List.{map-append}
-use Rattle.step_lexis.specs.declared.token.Mark.TheVariants.{Open, Semicolon}
-use Rattle.step_lexis.specs.declared.token.Token.{Token}
-use Rattle.step_lexis.specs.Reading.{Reading, Takes, left}
-use Rattle.step_records.specs.Building.{list_of}
+use Rattle.step_lexer.specs.declared.token.Mark.TheVariants.{Open, Semicolon}
+use Rattle.step_lexer.specs.declared.token.Token.{Token}
+use Rattle.step_lexer.specs.Reading.{Reading, Takes, left}
+use Rattle.step_records.specs.steps.Building.{list_of}
 use Rattle.step_records.specs.Cells.{all_of}
-use Rattle.step_records.specs.Tokens.{leaf_tree}
+use Rattle.step_records.specs.steps.Tokens.{leaf_tree}
 use Rattle.step_structures.specs.declared.fault.TextFault.{TextFault}
 use Rattle.step_structures.specs.Words.{keyword, mark, token, located}
 use Rattle.step_structures.specs.Trees.{Tree, leaf, Record, this, is_said, items_of_record, items_of_list}
 use Rattle.step_structures.specs.Fits.{NamesSchema}
-use Rattle.step_structures.specs.Predict.{Just, Head, Records, Items, is_mark}
-use Rattle.step_records.specs.Readers.{Progress, reading}
-use Rattle.step_records.specs.Steps.{StopsIn, Passes, PushesAll, TakesItems}
-use Rattle.step_records.specs.Records.{tree_of_record, TakesRecord}
+use Rattle.step_structures.specs.steps.Predict.{Just, Head, Records, Items, is_mark}
+use Rattle.step_records.specs.steps.Readers.{Progress, reading}
+use Rattle.step_records.specs.steps.Steps.{StopsIn, Passes, PushesAll, TakesItems}
+use Rattle.step_records.specs.steps.Records.{tree_of_record, TakesRecord}
 use Rattle.step_records.proofs.Pushing.{pushes_over}
 use Rattle.step_records.proofs.Recording.{record_with, with_kept, kept_list}
-use Rattle.step_exchange.specs.Steps.{TakesHead, StopsAtSchema, after_keyword, StopsInHeader}
-use Rattle.step_exchange.specs.Keeping.{Keeps, BeginsHeader, KeepsHead, KeepsLine, KeepsSchema, PushesKeyed, EndsKeyed, TakesKeyed, KeepsRecord, EndsRecords, TakesNext, KeepsSoFar, KeepsHeader}
+use Rattle.step_exchange.specs.steps.Steps.{TakesHead, StopsAtSchema, after_keyword, StopsInHeader}
+use Rattle.step_exchange.specs.steps.Keeping.{Keeps, BeginsHeader, KeepsHead, KeepsLine, KeepsSchema, PushesKeyed, EndsKeyed, TakesKeyed, KeepsRecord, EndsRecords, TakesNext, KeepsSoFar, KeepsHeader}
 use Rattle.step_exchange.proofs.HeadSteps.{Ends, head_done, record_done, schema_done, keyed_other, keyed_err_items, keyed_ended, keyed_end, more_err_mark, more_done, more_end, opening_err_first, opening_err_second, opening_err_third, opening_done, header_next, header_err, header_done, header_smaller}
 
 -- a record that is pending as its keyword and its parameters is kept whole

@@ -2,12 +2,12 @@
 use Rattle.std.proofs.Common.{◌≡◌, ℕ, ◌<◌, Bool, true, false, List, [], ◌∷◌, ◌++◌, length, Ok, Err, refl, sym, ap, ◌∙◌, subst, append_assoc, append-nil, arith, codes}
 use Rattle.std.proofs.lemmas.Bool.{false≢true}
 use Rattle.parsing.specs.Tables.{lookaheads}
-use Rattle.step_lexis.specs.declared.token.Mark.TheVariants.{Open, Semicolon}
-use Rattle.step_lexis.specs.declared.token.Sort.{Sort}
-use Rattle.step_lexis.specs.declared.token.Sort.TheVariants as sorts
-use Rattle.step_lexis.specs.Reading.{Reading, Takes, left}
-use Rattle.step_lexis.specs.declared.token.Token.{Token}
-use Rattle.step_lexis.proofs.ReadingLemmas.{takes_less}
+use Rattle.step_lexer.specs.declared.token.Mark.TheVariants.{Open, Semicolon}
+use Rattle.step_lexer.specs.declared.token.Sort.{Sort}
+use Rattle.step_lexer.specs.declared.token.Sort.TheVariants as sorts
+use Rattle.step_lexer.specs.Reading.{Reading, Takes, left}
+use Rattle.step_lexer.specs.declared.token.Token.{Token}
+use Rattle.step_lexer.proofs.ReadingLemmas.{takes_less}
 use Rattle.step_structures.specs.declared.fault.FaultKind.TheVariants as kinds
 use Rattle.step_structures.specs.declared.fault.TextFault.{TextFault}
 use Rattle.step_structures.specs.declared.fault.TextFault.TheVariants as faults
@@ -15,9 +15,9 @@ use Rattle.step_structures.specs.Words.{Lookahead, token, mark, begins, keyword,
 use Rattle.step_structures.specs.Trees.{Record, Trees, Item, this, says, Meets, MeetAll, is_said, items_of_start, items_of_record, items_of_records, items_of_header, items_of_list, section}
 use Rattle.step_structures.specs.Fits.{the_rules, FitsTrees, FitsRecord, FitsRecords, NamesSchema}
 use Rattle.step_structures.specs.Texts.{items_of_opening}
-use Rattle.step_structures.specs.Predict.{Symbol, Just, Start, Say, Head, Records, Ended, Items, refused, is_mark, opening_symbols, table, start_symbols, params_symbols}
-use Rattle.step_records.specs.Steps.{StopsIn, Passes}
-use Rattle.step_exchange.specs.Steps.{Starts, IsHead, TakesHead, StopsAtSchema, stops_before, stops_unnamed, HeaderSoFar, TakesHeader, StopsInHeader, in_opening, unnamed, in_records, after_keyword}
+use Rattle.step_structures.specs.steps.Predict.{Symbol, Just, Start, Say, Head, Records, Ended, Items, refused, is_mark, opening_symbols, table, start_symbols, params_symbols}
+use Rattle.step_records.specs.steps.Steps.{StopsIn, Passes}
+use Rattle.step_exchange.specs.steps.Steps.{Starts, IsHead, TakesHead, StopsAtSchema, stops_before, stops_unnamed, HeaderSoFar, TakesHeader, StopsInHeader, in_opening, unnamed, in_records, after_keyword}
 use Rattle.step_structures.proofs.Meeting.{meets_is}
 use Rattle.step_structures.proofs.Passing.{header_items}
 use Rattle.step_records.proofs.Taking.{reads_of, passes_here, passes_as, passes_join, passes_more, passes_then, passes_token, shown_within, stops_behind, stops_all, stops_token}
@@ -125,7 +125,7 @@ passes_head : (word : List ℕ) (old : Reading) (p : Record) (place : ℕ) (new 
 passes_head word old p place new h = passes_join (passes_keyword word h.key p.keyword old h.inside h.taken h.key_is
     h.head.0) h.passes
 
--- .. and its semicolon
+-- a record with its keyword and its semicolon
 pub record_err_head : (e : TextFault) (word : List ℕ) (old : Reading) → StopsIn e (Head word ∷ []) [] old
     → StopsIn e (Head word ∷ Just Semicolon ∷ []) [] old
 record_err_head e word old h = stops_all e (Head word ∷ []) (Just Semicolon ∷ []) [] old h

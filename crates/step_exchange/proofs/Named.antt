@@ -7,7 +7,7 @@ use Rattle.std.proofs.Math.Nat.{ℕ_set}
 use Rattle.std.proofs.Math.Bridge.{le_prop}
 use Rattle.std.proofs.lemmas.List.{length-drop, length-map}
 use Rattle.std.proofs.lemmas.Map.Keys.{IsDistinct-prop}
-use Rattle.step_structures.specs.Trees.{Tree, Row, rows_of}
+use Rattle.step_structures.specs.Trees.{Tree, ExchangeRow, rows_of}
 use Rattle.step_structures.specs.Fits.{the_rules, FitsRows}
 use Rattle.step_structures.proofs.Named.{rows_distinct}
 use Rattle.step_exchange.specs.declared.section.Section.{Section}
@@ -18,7 +18,7 @@ use Rattle.step_exchange.specs.Exchanges.{structure, ExchangesAreNamed}
 use Rattle.step_exchange.proofs.Counts.{counts-prop}
 
 -- sections hold all instances
-all-held : (from : ℕ) (ss : List Section) (n : ℕ) (rows : List Row) → CountsTo from ss n → n ≡ from + length rows
+all-held : (from : ℕ) (ss : List Section) (n : ℕ) (rows : List ExchangeRow) → CountsTo from ss n → n ≡ from + length rows
     → rows_of (sections_of from ss rows) ≡ rows
 all-held from [] n [] h e = refl
 all-held from [] n (r ∷ rows) h e = absurd (omega (arith, h, e))
@@ -48,17 +48,17 @@ rows-are x =
     (∥∥₁_elim x.counted (counts-prop 0 x.sections.items (length x.names)) (λ h. h))
     (let same = with-length x.names (drop x.header_len x.trees) (as-many x) in omega (arith, same))
 
-pub names-of : (ns : List ℕ) (xs : List Tree) → length xs ≡ length ns → map (λ (r : Row). r.name) (rows_with ns xs) ≡ ns
+pub names-of : (ns : List ℕ) (xs : List Tree) → length xs ≡ length ns → map (λ (r : ExchangeRow). r.name) (rows_with ns xs) ≡ ns
 names-of [] [] h = refl
 names-of [] (x ∷ xs) h = refl
 names-of (n ∷ ns) [] h = absurd (omega (arith, h))
 names-of (n ∷ ns) (x ∷ xs) h = ap (λ l. n ∷ l) (names-of ns xs (omega (arith, h)))
 
-pub names-are : (x : Exchange) → map (λ (r : Row). r.name) (rows_of (structure x).sections) ≡ x.names
+pub names-are : (x : Exchange) → map (λ (r : ExchangeRow). r.name) (rows_of (structure x).sections) ≡ x.names
 names-are x =
-    ap (map (λ (r : Row). r.name)) (rows-are x) ∙ names-of x.names (drop x.header_len x.trees) (as-many x)
+    ap (map (λ (r : ExchangeRow). r.name)) (rows-are x) ∙ names-of x.names (drop x.header_len x.trees) (as-many x)
 
-rows_few : (before : List ℕ) (rs : List Row) → length before < 2 ^ 32 → FitsRows the_rules before rs
+rows_few : (before : List ℕ) (rs : List ExchangeRow) → length before < 2 ^ 32 → FitsRows the_rules before rs
     → length before + length rs < 2 ^ 32
 rows_few before [] l h = omega (arith, l)
 rows_few before (r ∷ rs) l h =
@@ -75,7 +75,7 @@ pub few : (x : Exchange) → length x.names < 2 ^ 32
 few x =
     ∥∥₁_elim x.read le_prop
     (λ r. let less = rows_few [] (rows_of (structure x).sections) (omega arith) r.1.fits.1.2 in
-    omega (arith, less, ap length (sym (names-are x)), length-map (rows_of (structure x).sections) (λ (r : Row). r.name)))
+    omega (arith, less, ap length (sym (names-are x)), length-map (rows_of (structure x).sections) (λ (r : ExchangeRow). r.name)))
 
 pub exchanges-are-named : ExchangesAreNamed
 exchanges-are-named x = (names-are x, distinct x, few x)

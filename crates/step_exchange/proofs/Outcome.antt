@@ -6,8 +6,8 @@ use Rattle.parsing.proofs.Lists.{cut_at, lookaheads_append, passes_or_stops}
 use Rattle.parsing.proofs.Leading.{Leads}
 use Rattle.parsing.proofs.Running.{reaches_run}
 use Rattle.parsing.proofs.Shown.{shows_join}
-use Rattle.step_lexis.specs.declared.token.Mark.TheVariants.{Semicolon}
-use Rattle.step_lexis.specs.Reading.{Reading, start}
+use Rattle.step_lexer.specs.declared.token.Mark.TheVariants.{Semicolon}
+use Rattle.step_lexer.specs.Reading.{Reading, start}
 use Rattle.step_structures.specs.declared.fault.FaultKind.{FaultKind}
 use Rattle.step_structures.specs.declared.fault.FaultKind.TheVariants as kinds
 use Rattle.step_structures.specs.declared.fault.TextFault.{TextFault}
@@ -16,9 +16,9 @@ use Rattle.step_structures.specs.Words.{mark, keyword, Lookahead, LocatedToken, 
 use Rattle.step_structures.specs.Trees.{Record, Section, File, Item, this, MeetAll, items_of_records, items_of_header, section}
 use Rattle.step_structures.specs.Fits.{the_rules, FitsRecords, FitsHeader, IsHeader, HasSchema, NamesSchema}
 use Rattle.step_structures.specs.Texts.{ReadsAs, items_of_opening, HoldsSchema, IsFirstFault, IsFaultOf, IsMemory}
-use Rattle.step_structures.specs.Predict.{Just, Records, opening_symbols, data_symbols, table}
-use Rattle.step_records.specs.Steps.{StopsIn}
-use Rattle.step_exchange.specs.Steps.{TakesHeader, TakesData, StopsInHeader, in_opening, unnamed, in_records}
+use Rattle.step_structures.specs.steps.Predict.{Just, Records, opening_symbols, data_symbols, table}
+use Rattle.step_records.specs.steps.Steps.{StopsIn}
+use Rattle.step_exchange.specs.steps.Steps.{TakesHeader, TakesData, StopsInHeader, in_opening, unnamed, in_records}
 use Rattle.step_structures.proofs.Meeting.{meet_as, meet_split, meets_is}
 use Rattle.step_structures.proofs.Passing.{pass_opened, header_items}
 use Rattle.step_structures.proofs.Schemas.{holds_named}

@@ -2,11 +2,11 @@
 use Rattle.std.proofs.Common.{◌≡◌, ℕ, ◌≤◌, Bool, true, false, cond, ◌&&◌, nat_eq, List, [], ◌∷◌, length, refl, sym, ap, ◌∙◌, subst, arith, length-drop}
 use Rattle.std.specs.List.{starts_with}
 use Rattle.parsing.specs.Tables.{lookaheads}
-use Rattle.step_lexis.specs.Reading.{Reading, start, start_of}
-use Rattle.step_lexis.proofs.Determined.{same_place, places_rise}
+use Rattle.step_lexer.specs.Reading.{Reading, start, start_of}
+use Rattle.step_lexer.proofs.Determined.{same_place, places_rise}
 use Rattle.step_structures.specs.Words.{LocatedToken, Shows, shows_token, shows_fault, shows_end, ShowsAll, begins}
 use Rattle.step_structures.specs.Trees.{Record, this, Meets, MeetAll, items_of_header}
-use Rattle.step_exchange.specs.Steps.{TakesHeader}
+use Rattle.step_exchange.specs.steps.Steps.{TakesHeader}
 
 pub record Bounds (old new : Reading) : Type 0 where
   pub text : new.text ≡ old.text

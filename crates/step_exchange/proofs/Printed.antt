@@ -3,7 +3,7 @@ use Rattle.std.proofs.Common.{◌≡◌, ℕ, zero, suc, ◌+◌, ◌<◌, ◌�
 use Rattle.std.specs.Prelude.{◌==◌, ◌-◌, ◌&&◌, filter}
 use Rattle.std.proofs.lemmas.Bool.{false≢true}
 use Rattle.step_structures.specs.Words.{name, number, string, binary}
-use Rattle.step_structures.specs.Trees.{Tree, leaf, group, Trees, none, one, Row, Section}
+use Rattle.step_structures.specs.Trees.{Tree, leaf, group, Trees, none, one, ExchangeRow, Section}
 use Rattle.step_structures.specs.Normal.{plain_tree, plain_trees, plain_more, plain_record, plain_partial_records, plain_rows, plain_row, plain_section, plain_sections}
 use Rattle.step_records.specs.Cells.{all_of}
 use Rattle.step_records.specs.Params.{is_literal_tree, are_literals}
@@ -11,7 +11,7 @@ use Rattle.step_exchange.specs.declared.section.Section as code
 use Rattle.step_exchange.specs.Views.{record_in, form_in, rows_with}
 use Rattle.step_exchange.specs.Sections.{heading_of, sections_of}
 use Rattle.step_exchange.proofs.Cuts.{rows_taken, rows_dropped}
-use Rattle.merged_texts.specs.Merged.{led_tree, led_trees, led_record, led_row, merged_rows, merged_section, merged_sections}
+use Rattle.step_structures.specs.MergedTexts.{led_tree, led_trees, led_record, led_row, merged_rows, merged_section, merged_sections}
 
 both : (a b : Bool) → (a && b) ≡ true → (a ≡ true) × (b ≡ true)
 both true b e = (refl, e)
@@ -63,20 +63,20 @@ module _ (h : ℕ → ℕ) where
       (plain_partial_records (map (led_record h) (map record_in xs))) (plain_record (led_record h (record_in y))))
 
   -- the line of one instance
-  abbrev pub one_line : Row → List ℕ
+  abbrev pub one_line : ExchangeRow → List ℕ
   one_line r = plain_rows (merged_rows h (r ∷ []))
 
-  first_line : (r : Row) (rs : List Row) → plain_rows (merged_rows h (r ∷ rs))
+  first_line : (r : ExchangeRow) (rs : List ExchangeRow) → plain_rows (merged_rows h (r ∷ rs))
       ≡ one_line r ++ plain_rows (merged_rows h rs)
   first_line r rs = go (h r.name == r.name)
     where
-      go : (b : Bool) → plain_rows (map (led_row h) (cond b (r ∷ filter (λ (q : Row). h q.name == q.name) rs)
-          (filter (λ (q : Row). h q.name == q.name) rs)))
+      go : (b : Bool) → plain_rows (map (led_row h) (cond b (r ∷ filter (λ (q : ExchangeRow). h q.name == q.name) rs)
+          (filter (λ (q : ExchangeRow). h q.name == q.name) rs)))
           ≡ plain_rows (map (led_row h) (cond b (r ∷ []) [])) ++ plain_rows (merged_rows h rs)
       go true = ap (λ l. l ++ plain_rows (merged_rows h rs)) (sym (append-nil (plain_row (led_row h r))))
       go false = refl
 
-  pub kept_line : (r : Row) → h r.name ≡ r.name → plain_row (led_row h r) ≡ one_line r
+  pub kept_line : (r : ExchangeRow) → h r.name ≡ r.name → plain_row (led_row h r) ≡ one_line r
   kept_line r e =
       sym (ap (λ (b : Bool). plain_rows (map (led_row h) (cond b (r ∷ []) []))) (eq-eqb (h r.name) r.name e)
       ∙ append-nil (plain_row (led_row h r)))
@@ -94,8 +94,8 @@ module _ (h : ℕ → ℕ) where
       let l : y ≡ x = cc in
       λ j. one_line (record { name = k j; form = form_in (l j) })
   led_rows_push (m ∷ ns) (y ∷ xs) (suc i) n x e f =
-      let r : Row = record { name = m; form = form_in y } in
-      let q : Row = record { name = n; form = form_in x } in
+      let r : ExchangeRow = record { name = m; form = form_in y } in
+      let q : ExchangeRow = record { name = n; form = form_in x } in
       first_line r (rows_with (take (suc i) ns) (take (suc i) xs))
       ∙ ap (λ l. one_line r ++ l) (led_rows_push ns xs i n x e f)
       ∙ sym (append_assoc (one_line r) (plain_rows (merged_rows h (rows_with (take i ns) (take i xs)))) (one_line q))

@@ -7,10 +7,10 @@ use Rattle.step_structures.specs.Fits.{NamesSchema}
 use Rattle.step_records.specs.Cells.{all_of}
 use Rattle.step_records.specs.Params.{parts_of}
 use Rattle.step_records.proofs.Parts.{all_in}
-use Rattle.step_records.specs.Readers.{Progress}
-use Rattle.step_records.specs.Records.{tree_of_record}
+use Rattle.step_records.specs.steps.Readers.{Progress}
+use Rattle.step_records.specs.steps.Records.{tree_of_record}
 use Rattle.step_exchange.specs.Views.{record_of, record_in}
-use Rattle.step_exchange.specs.Keeping.{Keeps}
+use Rattle.step_exchange.specs.steps.Keeping.{Keeps}
 
 -- a record's parameters stand behind its keyword
 pub values_behind : (xs : List Tree) → (record_of xs).values ≡ all_of (drop 1 xs)
@@ -43,7 +43,7 @@ not_one [] f h = h
 not_one (x ∷ []) f h = f refl
 not_one (x ∷ y ∷ xs) f h = two_params x y (all_of xs) h
 
--- .. or not of one name
+-- a list that isn't of one name doesn't name a schema
 pub not_one_name : (xs : List Tree) → (length xs ≡ 1 → ⊥) → NamesSchema (one (group (all_of xs)) none) → ⊥
 not_one_name [] f h = h
 not_one_name (x ∷ []) f h = f refl

@@ -1,19 +1,19 @@
 -- What was read of a text, from its beginning to its end.
 use Rattle.std.proofs.Common.{◌≡◌, ℕ, ◌≤◌, List, [], ◌++◌, length, take, drop, map, sym, ap, ◌∙◌, subst, ◌+◌, arith, length-append}
 use Rattle.std.proofs.lemmas.List.{length-map}
-use Rattle.step_lexis.specs.Reading.{Reading, start, start_of}
+use Rattle.step_lexer.specs.Reading.{Reading, start, start_of}
 use Rattle.step_structures.specs.declared.fault.TextFault.{TextFault}
-use Rattle.step_structures.specs.Trees.{Row, File}
+use Rattle.step_structures.specs.Trees.{ExchangeRow, File}
 use Rattle.step_structures.specs.Texts.{ReadsAs, IsFaultOf}
-use Rattle.step_structures.specs.Predict.{data_symbols}
-use Rattle.step_records.specs.Readers.{Progress, reading}
-use Rattle.step_records.specs.Steps.{StopsIn}
-use Rattle.step_records.specs.Records.{tree_of_record}
-use Rattle.step_records.specs.Instances.{tree_of_row}
+use Rattle.step_structures.specs.steps.Predict.{data_symbols}
+use Rattle.step_records.specs.steps.Readers.{Progress, reading}
+use Rattle.step_records.specs.steps.Steps.{StopsIn}
+use Rattle.step_records.specs.steps.Records.{tree_of_record}
+use Rattle.step_records.specs.steps.Instances.{tree_of_row}
 use Rattle.step_exchange.specs.declared.section.Section as code
 use Rattle.step_exchange.specs.Sections.{sections_of, file_of}
-use Rattle.step_exchange.specs.Steps.{TakesHeader, StopsInHeader}
-use Rattle.step_exchange.specs.Keeping.{KeepsHeader, KeepsData}
+use Rattle.step_exchange.specs.steps.Steps.{TakesHeader, StopsInHeader}
+use Rattle.step_exchange.specs.steps.Keeping.{KeepsHeader, KeepsData}
 use Rattle.step_exchange.proofs.Again.{file_again}
 use Rattle.step_exchange.proofs.Outcome.{header_is_fault, data_is_fault, is_read}
 use Rattle.step_exchange.proofs.Places.{header_bounds}
@@ -66,5 +66,5 @@ trees_match mid end n ss names size d = omega (
   length-append mid.built.kept (map tree_of_row d.rows),
   length-map d.rows tree_of_row,
   ap length d.named,
-  length-map d.rows (λ (r : Row). r.name),
+  length-map d.rows (λ (r : ExchangeRow). r.name),
 )

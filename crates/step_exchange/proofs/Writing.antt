@@ -4,7 +4,7 @@ use Rattle.std.proofs.Math.Seq.{take-suc}
 use Rattle.std.specs.Char.{to_ascii_uppercase}
 use Rattle.step_records.specs.Cells.{all_of}
 use Rattle.step_records.proofs.Weights.{weight, weights, lighter}
-use Rattle.devices.specs.Prints.{Printing, Prints}
+use Rattle.devices.specs.steps.Prints.{Printing, Prints}
 use Rattle.step_structures.specs.Trees.{Tree}
 use Rattle.step_exchange.specs.Views.{record_in, form_in, rows_with}
 use Rattle.step_literals.specs.Words.{upper}

@@ -1,5 +1,4 @@
 pub mod Views
 pub mod Sections
-pub mod Steps
-pub mod Keeping
 pub mod Exchanges
+pub mod steps

@@ -1,22 +1,22 @@
 //! The data sections and the end of the file, read from tokens (ISO 10303-21, 5.3 and 11).
 
 ghost use Rattle.std.specs.Prelude.{◌≡◌, ℕ, List, [], ◌∷◌, ◌++◌, MatchResult, IfOk};
-ghost use Rattle.step_lexis.specs.declared.token.Mark.TheVariants as marks;
+ghost use Rattle.step_lexer.specs.declared.token.Mark.TheVariants as marks;
 ghost use Rattle.step_structures.specs.declared.fault.TextFault.TheVariants.{Fault};
 ghost use Rattle.step_structures.specs.Words.{string, mark, ends, token, located};
 ghost use Rattle.step_structures.specs.Trees.{this, finish, items_of_heading};
-ghost use Rattle.step_structures.specs.Predict.{Quoted, Behind, Sections, Just, EndOfText};
-ghost use Rattle.step_structures.specs.Predict.{heading_symbols, data_symbols};
-ghost use Rattle.step_records.specs.Readers.{reading};
-ghost use Rattle.step_records.specs.Steps.{ParsesWhere, StopsIn};
+ghost use Rattle.step_structures.specs.steps.Predict.{Quoted, Behind, Sections, Just, EndOfText};
+ghost use Rattle.step_structures.specs.steps.Predict.{heading_symbols, data_symbols};
+ghost use Rattle.step_records.specs.steps.Readers.{reading};
+ghost use Rattle.step_records.specs.steps.Steps.{ParsesWhere, StopsIn};
 ghost use Rattle.step_exchange.specs.Sections.{heading_of};
-ghost use Rattle.step_exchange.specs.Steps.{BeginsSection, section_refused};
-ghost use Rattle.step_exchange.specs.Keeping.{KeepsData};
+ghost use Rattle.step_exchange.specs.steps.Steps.{BeginsSection, section_refused};
+ghost use Rattle.step_exchange.specs.steps.Keeping.{KeepsData};
 
 use crate::section::Section;
 use std::alloc::Global;
 use std::hash::RandomState;
-use step_lexis::token::{Mark, Sort, Token};
+use step_lexer::token::{Mark, Sort, Token};
 use step_literals::literal::Text;
 use step_records::instances::rows;
 use step_records::names::Names;
@@ -24,10 +24,11 @@ use step_records::reader::Reader;
 use step_records::tokens::{expect, fault_at, is_mark, is_said, is_word, refuse, take};
 use step_structures::fault::{FaultKind, LeftOut, TextFault};
 
-/// So many data sections may stand.
+/// The greatest number of data sections.
 const SECTIONS: usize = 0xFFFF_FFFF;
 
-/// The fault at a token that is neither DATA nor the end of the file, where one of them is due.
+/// Returns the fault of a token that is neither DATA nor the end of the file, if one of these was
+/// expected.
 fn refuse_section(token: Token<'_>) -> TextFault
     ensures { result ≡ Fault (section_refused (located token.entry).lookahead) token.entry.place }
 {
@@ -58,7 +59,8 @@ fn string<'a>(reader: &mut Reader<'a>) -> Result<Text<'a>, TextFault>
     Ok(text)
 }
 
-/// The name of a section and that of its schema, behind the parenthesis, and the semicolon.
+/// Reads the name of a section and the name of its schema after the opening parenthesis, up to the
+/// semicolon.
 fn names<'a>(reader: &mut Reader<'a>) -> Result<(Text<'a>, Text<'a>), TextFault>
     ensures { ParsesWhere result heading_symbols (λ h. this (string h.0.text.now)
         ∷ this (mark marks.Comma) ∷ this (mark marks.Open) ∷ this (string h.1.text.now)
@@ -75,7 +77,7 @@ fn names<'a>(reader: &mut Reader<'a>) -> Result<(Text<'a>, Text<'a>), TextFault>
     Ok((name, schema))
 }
 
-/// What stands behind the word of a data section, through its semicolon.
+/// Reads what follows the keyword DATA, up to the semicolon.
 fn heading<'a>(reader: &mut Reader<'a>) -> Result<Option<(Text<'a>, Text<'a>)>, TextFault>
     ensures { ParsesWhere result (Behind ∷ []) (λ h. items_of_heading (heading_of h)
         ++ this (mark marks.Semicolon) ∷ []) (λ _. reader.new.built ≡ reader.old.built)
@@ -92,7 +94,8 @@ fn heading<'a>(reader: &mut Reader<'a>) -> Result<Option<(Text<'a>, Text<'a>)>, 
     Ok(Some(names))
 }
 
-/// The heading of one more data section, behind so many others. Its first token is taken already.
+/// Reads the heading of one more data section, after `sections` others. Its first token is already
+/// read.
 fn begin_section<'a>(
     reader: &mut Reader<'a>,
     first: Token<'a>,
@@ -135,7 +138,7 @@ fn end_of_text(reader: &mut Reader<'_>) -> Result<(), TextFault>
     }
 }
 
-/// Reads what stands behind the word that ends the file.
+/// Reads what follows the keyword that ends the file.
 fn end(reader: &mut Reader<'_>) -> Result<(), TextFault>
     ensures { ParsesWhere result (Just marks.Semicolon ∷ EndOfText ∷ [])
         (λ _. this (mark marks.Semicolon) ∷ finish ∷ []) (λ _. reader.new.built ≡ reader.old.built)
@@ -145,7 +148,7 @@ fn end(reader: &mut Reader<'_>) -> Result<(), TextFault>
     end_of_text(reader)
 }
 
-/// No names, with room for so many where memory has it.
+/// Returns an empty list of names, with room for `expected` names if there is enough memory.
 fn room_for(alloc: Global, keys: RandomState, expected: usize) -> Names
     ensures { result ≡ [] }
 {
@@ -154,8 +157,8 @@ fn room_for(alloc: Global, keys: RandomState, expected: usize) -> Names
     names
 }
 
-/// The data sections and the names of their instances, read to the end of the text; what stands
-/// for each instance is kept.
+/// Reads the data sections and the names of their instances, to the end of the text, and keeps the
+/// trees of the instances.
 fn each_section<'a>(
     alloc: Global,
     keys: RandomState,
@@ -185,7 +188,8 @@ fn each_section<'a>(
     }
 }
 
-/// The same, with room for so many names from the start where memory allows that.
+/// Reads the data sections and the names of their instances, to the end of the text, and keeps the
+/// trees of the instances. It reserves room for `expected` names if there is enough memory.
 pub fn data<'a>(
     alloc: Global,
     keys: RandomState,

@@ -1,4 +1,4 @@
-//! The exchange structure of a text.
+//! Reading the exchange structure of a text.
 
 ghost use Rattle.std.specs.Prelude.{◌≡◌, List, ℕ, IfOk, IfErr, MatchResult};
 ghost use Rattle.step_structures.specs.Trees.{File};
@@ -15,16 +15,17 @@ use step_records::param::cut;
 use step_records::reader::Reader;
 use step_structures::fault::TextFault;
 
-/// An instance has so many cells in most files, or a few more.
+/// An estimate of the number of cells of an instance. In most files instances have this many, or a
+/// few more.
 const CELLS: usize = 6;
 
-/// Few files have instances of fewer bytes.
+/// The least number of bytes that an instance has in most files.
 const BYTES: usize = 16;
 
-/// So many bytes of a text tell how many instances stand in each so many.
+/// The size in bytes of the sample from which the number of instances is estimated.
 const SAMPLE: usize = 65_536;
 
-/// How many instances a text seems to have, by the semicolons at its start.
+/// Estimates the number of instances of a text by the semicolons at its start.
 fn expected(text: &[u8]) -> usize {
     let (sample, _) = cut(text, SAMPLE);
     let found = memchr_iter(b';', sample).count();
@@ -32,8 +33,8 @@ fn expected(text: &[u8]) -> usize {
     found.saturating_mul(samples).min(text.len() / BYTES)
 }
 
-/// Asks for room for so many cells and trees, or half as many and so on where memory has no such
-/// room.
+/// Reserves room for `cells` cells and `trees` trees. If there isn't that much memory, it halves
+/// both numbers until there is.
 fn reserve(reader: &mut Reader<'_>, cells: usize, trees: usize)
     ensures { reader.new ≡ reader.old }
 {
@@ -48,20 +49,23 @@ fn reserve(reader: &mut Reader<'_>, cells: usize, trees: usize)
     }
 }
 
-/// The exchange structure that a text reads as (ISO 10303-21, 5 to 11).
+/// Returns the exchange structure that a text reads as (ISO 10303-21, 5 to 11).
 ///
-/// Where it reads as none the fault is the one that shows first, E1 to E10, with its place; where
-/// memory runs out it is `Memory`. The limit of 2^40 bytes is the caller's to test.
+/// The caller must test the limit of 2^40 bytes. `keys` are the hash keys for names, and for the
+/// keywords of long external records.
 ///
-/// Names, and keywords of long external records, are hashed by these keys.
+/// # Errors
+///
+/// - `Fault` with the first fault of the text, E1 to E10, and its byte offset
+/// - `Memory` if memory runs out
 pub fn read_exchange<'a>(
     alloc: Global,
     keys: RandomState,
     text: &'a [u8],
 ) -> Result<Exchange<'a>, TextFault>
-    // What is read is what the text reads as.
+    // The result is what the text reads as.
     ensures found { IfOk result (λ x. ReadsAs text.now x.header_bytes.now (structure x)) }
-    // What the text reads as is read, unless memory runs out.
+    // If the text reads as a structure, that is the result, unless memory runs out.
     ensures all { (header_bytes : List ℕ) (file : File) → ReadsAs text.now header_bytes file
         → MatchResult result (λ x. IsExchange header_bytes file x) IsMemory }
     // A fault is the text's first one.

@@ -1,14 +1,14 @@
 //! The header, read from tokens (ISO 10303-21, 8).
 
 ghost use Rattle.std.specs.Prelude.{◌≡◌, ◌∷◌, [], MatchResult};
-ghost use Rattle.step_lexis.specs.declared.token.Mark.TheVariants.{Semicolon};
-ghost use Rattle.step_lexis.specs.declared.token.Sort.TheVariants as sorts;
-ghost use Rattle.step_structures.specs.Predict.{Head, Just, Records, start_symbols};
-ghost use Rattle.step_records.specs.Tokens.{StandsIn};
-ghost use Rattle.step_records.specs.Readers.{reading};
-ghost use Rattle.step_records.specs.Steps.{StopsIn};
-ghost use Rattle.step_exchange.specs.Steps.{StopsInHeader, after_keyword};
-ghost use Rattle.step_exchange.specs.Keeping.{
+ghost use Rattle.step_lexer.specs.declared.token.Mark.TheVariants.{Semicolon};
+ghost use Rattle.step_lexer.specs.declared.token.Sort.TheVariants as sorts;
+ghost use Rattle.step_structures.specs.steps.Predict.{Head, Just, Records, start_symbols};
+ghost use Rattle.step_records.specs.steps.Tokens.{StandsIn};
+ghost use Rattle.step_records.specs.steps.Readers.{reading};
+ghost use Rattle.step_records.specs.steps.Steps.{StopsIn};
+ghost use Rattle.step_exchange.specs.steps.Steps.{StopsInHeader, after_keyword};
+ghost use Rattle.step_exchange.specs.steps.Keeping.{
   BeginsHeader,
   KeepsHead,
   KeepsLine,
@@ -19,7 +19,7 @@ ghost use Rattle.step_exchange.specs.Keeping.{
 };
 
 use crate::schema::schema;
-use step_lexis::token::{Mark, Sort, Token};
+use step_lexer::token::{Mark, Sort, Token};
 use step_literals::literal::Word;
 use step_records::cell::Leaf;
 use step_records::params::items;
@@ -28,7 +28,7 @@ use step_records::records::record;
 use step_records::tokens::{expect, expect_word, fault_at, is_mark, is_said, refuse, take};
 use step_structures::fault::{FaultKind, TextFault};
 
-/// Reads up to the first record, and answers the place of the first token.
+/// Reads the text before the first record, and returns the byte offset of the first token.
 fn start(reader: &mut Reader<'_>) -> Result<u64, TextFault>
     ensures { MatchResult result
         (λ place. BeginsHeader place reader.old reader.new)
@@ -44,7 +44,8 @@ fn start(reader: &mut Reader<'_>) -> Result<u64, TextFault>
     Ok(first.place)
 }
 
-/// The record with this keyword, without its semicolon, is kept; the place of the keyword.
+/// Reads and keeps the record with the keyword `word`, without its semicolon. Returns the byte
+/// offset of the keyword.
 pub fn head(reader: &mut Reader<'_>, word: &[u8]) -> Result<u64, TextFault>
     ensures { MatchResult result
         (λ place. KeepsHead word.now place reader.old reader.new)
@@ -63,7 +64,7 @@ pub fn head(reader: &mut Reader<'_>, word: &[u8]) -> Result<u64, TextFault>
     Ok(key.place)
 }
 
-/// The record with this keyword is kept.
+/// Reads and keeps the record with the keyword `word`, and reads its semicolon.
 fn line(reader: &mut Reader<'_>, word: &[u8]) -> Result<(), TextFault>
     ensures { MatchResult result
         (λ _. KeepsLine word.now reader.old reader.new)
@@ -74,9 +75,9 @@ fn line(reader: &mut Reader<'_>, word: &[u8]) -> Result<(), TextFault>
     Ok(())
 }
 
-/// What stands behind the keyword of one more record of the header: its parameters, with which it
-/// is pending then, or a semicolon where it ends the header. It answers whether it is a record:
-/// ENDSEC before a parenthesis is a keyword like another.
+/// Reads what follows the keyword of one more record of the header: its parameters, or the
+/// semicolon that ends the header. Returns whether it is a record, which is pending then. ENDSEC
+/// before a parenthesis is a keyword like any other.
 fn record_or_end<'a>(
     reader: &mut Reader<'a>,
     key: Token<'a>,
@@ -104,7 +105,8 @@ fn record_or_end<'a>(
     Ok(true)
 }
 
-/// One more record of the header is kept, or its end is read; whether it is a record.
+/// Reads and keeps one more record of the header, or reads the end of the header. Returns whether
+/// it is a record.
 fn next_record(reader: &mut Reader<'_>) -> Result<bool, TextFault>
     ensures { MatchResult result
         (λ more. TakesNext more reader.old reader.new)
@@ -123,7 +125,8 @@ fn next_record(reader: &mut Reader<'_>) -> Result<bool, TextFault>
     Ok(true)
 }
 
-/// The first three records of the header are kept; the place of the first token.
+/// Reads and keeps the first three records of the header. Returns the byte offset of the first
+/// token.
 fn opening(reader: &mut Reader<'_>) -> Result<u64, TextFault>
     ensures { MatchResult result
         (λ place. KeepsSoFar reader.old place reader.new)
@@ -136,7 +139,7 @@ fn opening(reader: &mut Reader<'_>) -> Result<u64, TextFault>
     Ok(place)
 }
 
-/// The records of the header are kept; the place of the first token.
+/// Reads and keeps the records of the header. Returns the byte offset of the first token.
 pub fn header(reader: &mut Reader<'_>) -> Result<u64, TextFault>
     ensures { MatchResult result
         (λ place. KeepsHeader reader.old place reader.new)

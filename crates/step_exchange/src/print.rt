@@ -1,4 +1,4 @@
-//! The normal text of an exchange structure, with its references led.
+//! The normal text of an exchange structure, with its references replaced.
 
 ghost use Rattle.std.specs.Prelude.{
   ◌≡◌,
@@ -16,7 +16,7 @@ ghost use Rattle.std.specs.Prelude.{
   IfSome,
   get_or,
 };
-ghost use Rattle.devices.specs.Prints.{Prints};
+ghost use Rattle.devices.specs.steps.Prints.{Prints};
 ghost use Rattle.devices.specs.Emits.{Emits};
 ghost use Rattle.step_records.specs.Cells.{all_of};
 ghost use Rattle.step_records.specs.Params.{node_value};
@@ -41,7 +41,7 @@ ghost use Rattle.step_structures.specs.Normal.{
   plain_section,
   plain_sections,
 };
-ghost use Rattle.merged_texts.specs.Merged.{
+ghost use Rattle.step_structures.specs.MergedTexts.{
   led_tree,
   led_trees,
   led_record,
@@ -54,7 +54,7 @@ ghost use Rattle.merged_texts.specs.Merged.{
 ghost use Rattle.step_exchange.specs.Sections.{heading_of, sections_of};
 ghost use Rattle.step_exchange.specs.Exchanges.{structure};
 
-use crate::leading::Leads;
+use crate::reference_targets::Leads;
 use crate::section::Section;
 use crate::structure::Exchange;
 use devices::device::{Sink, WriteFault};
@@ -62,8 +62,8 @@ use devices::printer::Printer;
 use step_literals::literal::Text;
 use step_records::param::{Node, Param, Params, cut};
 
-// Whether each byte of the word stands before the letters in lower case. It looks at all of them,
-// several at a time.
+// Whether no byte of the word is `a` or greater. It has no early exit, so that several bytes can be
+// tested at a time.
 fn stands_raised(word: &[u8]) -> bool
     ensures { IsTrue result → upper word.now ≡ word.now }
 {
@@ -74,7 +74,7 @@ fn stands_raised(word: &[u8]) -> bool
     most < b'a'
 }
 
-// A word in upper case, byte by byte.
+// Prints a word in upper case, byte by byte.
 fn print_raised<S: Sink>(printer: &mut Printer, out: &mut S, word: &[u8])
     ensures { Prints S.held S.has_failed out.old out.new printer.old printer.new (upper word.now) }
 {
@@ -83,7 +83,7 @@ fn print_raised<S: Sink>(printer: &mut Printer, out: &mut S, word: &[u8])
     }
 }
 
-// A word in upper case. Most stand so already, and go out whole.
+// Prints a word in upper case. Most words are in upper case already, and are printed whole.
 fn print_upper<S: Sink>(printer: &mut Printer, out: &mut S, word: &[u8])
     ensures { Prints S.held S.has_failed out.old out.new printer.old printer.new (upper word.now) }
 {
@@ -94,7 +94,7 @@ fn print_upper<S: Sink>(printer: &mut Printer, out: &mut S, word: &[u8])
     }
 }
 
-// An element of an enumeration.
+// Prints an enumeration element.
 fn print_element<S: Sink>(printer: &mut Printer, out: &mut S, word: &[u8])
     ensures { Prints S.held S.has_failed out.old out.new printer.old printer.new
         (codes "." ++ upper word.now ++ codes ".") }
@@ -104,7 +104,7 @@ fn print_element<S: Sink>(printer: &mut Printer, out: &mut S, word: &[u8])
     printer.print_byte(out, b'.');
 }
 
-// The name of an instance, or a reference to it.
+// Prints the name of an instance, or a reference to it.
 fn print_name<S: Sink>(printer: &mut Printer, out: &mut S, name: u64)
     ensures { Prints S.held S.has_failed out.old out.new printer.old printer.new (plain_name name) }
 {
@@ -113,7 +113,7 @@ fn print_name<S: Sink>(printer: &mut Printer, out: &mut S, name: u64)
     printer.print(out, digits.format(name).as_bytes());
 }
 
-// Whether bytes begin as a reference does.
+// Whether the bytes begin like a reference.
 fn is_reference(spelling: &[u8]) -> bool
     ensures { result ≡ (get_or spelling.now 0 0 == 35) }
 {
@@ -123,7 +123,7 @@ fn is_reference(spelling: &[u8]) -> bool
     }
 }
 
-// The spelling of a parameter, where the text has it so.
+// Returns the spelling of a parameter, if it is printed unchanged.
 fn literal<'a, L: Leads>(leads: &L, param: &Param<'a, '_>) -> Option<&'a [u8]>
     ensures { IfSome result (λ s. plain_tree (led_tree (L.led leads.now) param.now) ≡ s.now) }
 {
@@ -135,7 +135,7 @@ fn literal<'a, L: Leads>(leads: &L, param: &Param<'a, '_>) -> Option<&'a [u8]>
     }
 }
 
-// A parameter; a literal as it is spelt.
+// Prints a parameter; a literal keeps its spelling.
 #[cycle(params)]
 fn print_param<S: Sink, L: Leads>(
     printer: &mut Printer,
@@ -152,7 +152,7 @@ fn print_param<S: Sink, L: Leads>(
     }
 }
 
-// The outermost part of a parameter, and what is inside it.
+// Prints the outermost part of a parameter, and what is inside it.
 #[cycle(params)]
 #[inline(never)]
 fn print_node<S: Sink, L: Leads>(printer: &mut Printer, out: &mut S, leads: &L, node: &Node<'_, '_>)
@@ -182,7 +182,7 @@ fn print_node<S: Sink, L: Leads>(printer: &mut Printer, out: &mut S, leads: &L, 
     }
 }
 
-// Parameters, with commas between.
+// Prints parameters, separated by commas.
 #[cycle(params)]
 fn print_params<S: Sink, L: Leads>(
     printer: &mut Printer,
@@ -199,7 +199,7 @@ fn print_params<S: Sink, L: Leads>(
     }
 }
 
-// Parameters one by one, with commas between.
+// Prints parameters one by one, separated by commas.
 #[cycle(params)]
 fn print_each<S: Sink, L: Leads>(
     printer: &mut Printer,
@@ -221,7 +221,7 @@ fn print_each<S: Sink, L: Leads>(
     }
 }
 
-// The keyword that stands first.
+// Returns the keyword that comes first, if any, otherwise no bytes.
 fn first_keyword<'a>(parts: &Params<'a, '_>) -> &'a [u8]
     ensures { result.now ≡ (record_of parts.now).keyword }
 {
@@ -231,7 +231,7 @@ fn first_keyword<'a>(parts: &Params<'a, '_>) -> &'a [u8]
     }
 }
 
-// A keyword and its parameters.
+// Prints a keyword and its parameters.
 fn print_parts<S: Sink, L: Leads>(
     printer: &mut Printer,
     out: &mut S,
@@ -248,7 +248,7 @@ fn print_parts<S: Sink, L: Leads>(
     printer.print_byte(out, b')');
 }
 
-// Partial records, with nothing between.
+// Prints partial records, one after another.
 fn print_partial_records<S: Sink, L: Leads>(
     printer: &mut Printer,
     out: &mut S,
@@ -263,7 +263,7 @@ fn print_partial_records<S: Sink, L: Leads>(
     }
 }
 
-// Whether an instance is mapped internally: a keyword stands first.
+// Whether an instance is mapped internally, so that a keyword comes first.
 fn is_internal(parts: &Params<'_, '_>) -> bool
     ensures { result ≡ begins_with_keyword parts.now }
 {
@@ -273,7 +273,7 @@ fn is_internal(parts: &Params<'_, '_>) -> bool
     }
 }
 
-// What stands for an instance behind its `=`.
+// Prints the form of an instance, which follows its `=`.
 fn print_form<S: Sink, L: Leads>(
     printer: &mut Printer,
     out: &mut S,
@@ -292,7 +292,7 @@ fn print_form<S: Sink, L: Leads>(
     }
 }
 
-// The line of an instance, where its name is led to itself.
+// Prints the line of an instance, if its name is mapped to itself.
 fn print_row<S: Sink, L: Leads>(
     printer: &mut Printer,
     out: &mut S,
@@ -313,7 +313,7 @@ fn print_row<S: Sink, L: Leads>(
     printer.print(out, b";\n");
 }
 
-// A line for each instance whose name is led to itself, in order.
+// Prints a line for each instance whose name is mapped to itself, in order.
 fn print_rows<S: Sink, L: Leads>(
     printer: &mut Printer,
     out: &mut S,
@@ -332,7 +332,7 @@ fn print_rows<S: Sink, L: Leads>(
     }
 }
 
-// The name of a section and that of its schema, where it says them.
+// Prints the name of a section and the name of its schema, if it has them.
 fn print_heading<S: Sink>(printer: &mut Printer, out: &mut S, heading: Option<(Text<'_>, Text<'_>)>)
     ensures { Prints S.held S.has_failed out.old out.new printer.old printer.new
         (plain_heading (heading_of heading.entry)) }
@@ -346,7 +346,7 @@ fn print_heading<S: Sink>(printer: &mut Printer, out: &mut S, heading: Option<(T
     }
 }
 
-// A data section with these instances.
+// Prints a data section with these instances.
 fn print_section<S: Sink, L: Leads>(
     printer: &mut Printer,
     out: &mut S,
@@ -368,7 +368,7 @@ fn print_section<S: Sink, L: Leads>(
     printer.print(out, b"ENDSEC;\n");
 }
 
-// Data sections, whose instances these are, one after another.
+// Prints data sections one after another. `names` and `forms` are those of all their instances.
 fn print_sections<S: Sink, L: Leads>(
     printer: &mut Printer,
     out: &mut S,
@@ -395,16 +395,21 @@ fn print_sections<S: Sink, L: Leads>(
     }
 }
 
-/// Writes the normal text of an exchange structure that is merged: its header bytes as they stand,
-/// and then its data sections, with a line for each instance whose name is led to itself, and each
-/// reference led. Where the sink fails, a front of it went out, and the fault has its length.
+/// Writes the normal text of a merged exchange structure: its header bytes unchanged, then its data
+/// sections. These have a line for each instance whose name is mapped to itself. The names in
+/// references are mapped too.
+///
+/// # Errors
+///
+/// - `WriteFault` if the sink fails; a prefix of the text was written, and the fault has its length
 pub fn write_led<S: Sink, L: Leads>(
     exchange: &Exchange<'_>,
     leads: &L,
     out: &mut S,
 ) -> Result<(), WriteFault>
     ensures emits { Emits (S.held out.old) (S.held out.new)
-        (merged_text (L.led leads.now) exchange.now.header_bytes.now (structure exchange.now).sections)
+        (merged_text (L.led leads.now) exchange.now.header_bytes.now
+        (structure exchange.now).sections)
         result }
     ensures failed { S.has_failed out.old ≡ false → S.has_failed out.new ≡ is_err result }
 {

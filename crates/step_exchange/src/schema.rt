@@ -3,19 +3,19 @@
 ghost use Rattle.std.specs.Prelude.{◌≡◌, ◌↔◌, [], ◌∷◌, length, IsTrue};
 ghost use Rattle.std.specs.Prelude.{MatchResult, MatchOption};
 ghost use Rattle.step_structures.specs.Fits.{NamesSchema};
-ghost use Rattle.step_records.specs.Readers.{reading};
+ghost use Rattle.step_records.specs.steps.Readers.{reading};
 ghost use Rattle.step_exchange.specs.Views.{record_in};
-ghost use Rattle.step_exchange.specs.Steps.{StopsAtSchema};
-ghost use Rattle.step_exchange.specs.Keeping.{KeepsSchema};
+ghost use Rattle.step_exchange.specs.steps.Steps.{StopsAtSchema};
+ghost use Rattle.step_exchange.specs.steps.Keeping.{KeepsSchema};
 
 use crate::header::head;
-use step_lexis::token::Mark;
+use step_lexer::token::Mark;
 use step_records::param::{Node, Param, Params};
 use step_records::reader::Reader;
 use step_records::tokens::{is_mark, refuse, take};
 use step_structures::fault::{FaultKind, TextFault};
 
-/// The parameter that is alone among these.
+/// Returns the parameter, if there is exactly one.
 fn only<'a, 't>(params: &Params<'a, 't>) -> Option<Param<'a, 't>>
     ensures { MatchOption result
         (length params.now ≡ 1 → ⊥)
@@ -28,7 +28,7 @@ fn only<'a, 't>(params: &Params<'a, 't>) -> Option<Param<'a, 't>>
     }
 }
 
-/// Whether a record has one parameter, a list of one string.
+/// Whether a record has exactly one parameter, which is a list of one string.
 fn names_schema(line: &Param<'_, '_>) -> bool
     ensures { IsTrue result ↔ NamesSchema (record_in line.now).values }
 {
@@ -45,7 +45,7 @@ fn names_schema(line: &Param<'_, '_>) -> bool
     matches!(name.node(), Node::Text(_))
 }
 
-/// FILE_SCHEMA, which names one schema, is kept.
+/// Reads and keeps FILE_SCHEMA, which must name exactly one schema, and reads its semicolon.
 pub fn schema(reader: &mut Reader<'_>) -> Result<(), TextFault>
     ensures { MatchResult result
         (λ _. KeepsSchema reader.old reader.new)

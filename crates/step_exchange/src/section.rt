@@ -2,11 +2,11 @@
 
 use step_literals::literal::Text;
 
-/// A data section, whose instances stand behind those of the sections before it.
+/// A data section. Its instances follow those of the sections before it.
 #[derive(Clone, Copy)]
 pub struct Section<'a> {
-    /// Its name and that of its schema, where it says them.
+    /// The name of the section and the name of its schema, if it has them.
     pub heading: Option<(Text<'a>, Text<'a>)>,
-    /// So many instances stand up to its end, in it and the sections before it.
+    /// The number of instances in this section and the sections before it.
     pub past: u32,
 }

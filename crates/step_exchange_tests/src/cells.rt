@@ -1,4 +1,4 @@
-//! Columns, in whatever memory is found for them.
+//! Columns, as far as memory suffices.
 
 use crate::rows::expect_none;
 use parsing::column::Column;
@@ -9,7 +9,7 @@ const FORTY: &'static [u64] = &[
     27, 28, 29, 30, 31, 32, 33, 34, 35, 36, 37, 38, 39, 40,
 ];
 
-// Adds so many of the cells, and the others as the children of a list.
+// Adds the first `length` cells, and the others as the children of a list.
 fn add_forty(column: &mut Column<u64>, length: usize) -> Result<(), AllocError> {
     for i in 0..FORTY.len() {
         if i < length {
@@ -21,7 +21,8 @@ fn add_forty(column: &mut Column<u64>, length: usize) -> Result<(), AllocError> 
     Ok(())
 }
 
-// Whether a column of so many of the cells, with the others in a list, has all of them in order.
+// Whether a column of the first `length` cells, with the others in a list, has all of them in
+// order.
 fn has_forty(alloc: Global, length: usize) -> bool {
     let mut column = Column::new(alloc);
     if add_forty(&mut column, length).is_err() {

@@ -4,7 +4,7 @@
 #[cfg(test)]
 mod cells;
 #[cfg(test)]
-mod counted;
+mod failing_devices;
 #[cfg(test)]
 mod literals;
 #[cfg(test)]

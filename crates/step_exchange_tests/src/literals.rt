@@ -1,4 +1,4 @@
-//! What words, numbers, strings and binaries say, and how they compare.
+//! The meaning of keywords, numbers, strings and binaries, and how they compare.
 
 use crate::rows::expect_none;
 use std::cmp::Ordering;
@@ -7,26 +7,26 @@ use std::hash::{DefaultHasher, Hash, Hasher};
 use step_literals::fault::{Flaw, TextFault};
 use step_literals::literal::{Bits, Decimal, Item, Text, Word};
 
-/// What is asked of literals, with the answer.
+/// A question about literals, with the expected answer.
 #[derive(Clone, Copy)]
 enum Question {
     /// How two words compare.
     Words(&'static [u8], &'static [u8], Ordering),
     /// How two numbers compare.
     Numbers(&'static [u8], &'static [u8], Ordering),
-    /// How two numbers compare, each behind whether its sign is turned.
+    /// How two numbers compare, each after a flag that inverts its sign.
     Turned(bool, &'static [u8], bool, &'static [u8], Ordering),
-    /// How a number compares with a whole one.
+    /// How a number compares with an integer.
     BesideWhole(&'static [u8], i64, Ordering),
-    /// The whole number that a number is.
+    /// The integer that a number is equal to, if any.
     Whole(&'static [u8], Result<Option<i64>, TextFault>),
-    /// What is wrong with a string, and where.
+    /// The first flaw of a string and its byte offset, if any.
     IsString(&'static [u8], Option<(Flaw, u64)>),
     /// The characters of a string.
     Says(&'static [u8], &'static [Item]),
     /// How two strings compare.
     Strings(&'static [u8], &'static [u8], Ordering),
-    /// The bits of a binary, where it is one.
+    /// The bits of a binary; `None` if the text isn't one.
     HasBits(&'static [u8], Option<&'static [bool]>),
     /// How two binaries compare.
     Binaries(&'static [u8], &'static [u8], Ordering),
@@ -48,7 +48,7 @@ const PAGE: Item = Item::Page(2, 233);
 const BYTE: Item = Item::Raw(233);
 
 const CASES: &'static [Question] = &[
-    // Words have no case.
+    // Words are compared without case.
     Question::Words(b"cartesian_point", b"CARTESIAN_POINT", Equal),
     Question::Words(b"Cartesian_Point", b"CARTESIAN_POINT", Equal),
     Question::Words(b"CARTESIAN_POINTS", b"CARTESIAN_POINT", Greater),
@@ -56,7 +56,7 @@ const CASES: &'static [Question] = &[
     Question::Words(b"ab", b"A_", Less),
     Question::Words(b"Ab", b"aB1", Less),
     Question::Words(b"b", b"AA", Greater),
-    // Numbers compare by what they are worth.
+    // Numbers compare by their values.
     Question::Numbers(b"1.", b"1.0E0", Equal),
     Question::Numbers(b"1.", b"10.E-1", Equal),
     Question::Numbers(b"1.", b"+1", Equal),
@@ -87,7 +87,7 @@ const CASES: &'static [Question] = &[
     Question::BesideWhole(b"-1.E999999", i64::MIN, Less),
     Question::BesideWhole(b"-9223372036854775808", i64::MIN, Equal),
     Question::BesideWhole(b"9223372036854775807.5", i64::MAX, Greater),
-    // Whole ones, those that aren't or don't fit, and the limits of what is read.
+    // Integers, numbers that aren't integers or don't fit, and the limits of what is read.
     Question::Whole(b"10.E-1", Ok(Some(1))),
     Question::Whole(b"-7.00", Ok(Some(-7))),
     Question::Whole(b"0.E999999", Ok(Some(0))),
@@ -110,7 +110,7 @@ const CASES: &'static [Question] = &[
     Question::IsString(b"'\\X\\E9\\X\\E'", Some((Flaw::BadEscape, 6))),
     Question::IsString(b"'it''s", Some((Flaw::UnendedString, 0))),
     Question::IsString(b"'a' 'b'", Some((Flaw::BadToken, 0))),
-    // Strings say characters, ..
+    // The characters of strings.
     Question::Says(b"''", &[]),
     Question::Says(
         b"'it''s'",
@@ -143,7 +143,7 @@ const CASES: &'static [Question] = &[
     Question::Says(b"'\xE9'", &[BYTE]),
     Question::Says(b"'\xC3\xA9\xE9'", &[Item::Raw(0xC3), Item::Raw(0xA9), BYTE]),
     Question::Says(b"'\xC3\xA9a\xE9'", &[CODE, Item::Code(97), BYTE]),
-    // .. by which they compare.
+    // Strings compare by their characters.
     Question::Strings(b"'caf\xC3\xA9'", b"'caf\\X\\E9'", Equal),
     Question::Strings(b"'caf\xC3\xA9'", b"'caf\\X2\\00E9\\X0\\'", Equal),
     Question::Strings(b"'caf\xC3\xA9'", b"'caf\\X4\\000000e9\\X0\\'", Equal),
@@ -159,7 +159,7 @@ const CASES: &'static [Question] = &[
     Question::Strings(b"'\\X4\\FFFFFFFF\\X0\\'", b"'\\PB\\\\S\\ '", Less),
     Question::Strings(b"'\\PB\\\\S\\ '", b"'\xE9'", Less),
     Question::Strings(b"'a'", b"'ab'", Less),
-    // Binaries say bits, ..
+    // The bits of binaries.
     Question::HasBits(
         b"\"1A3\"",
         Some(&[false, true, false, false, false, true, true]),
@@ -167,7 +167,7 @@ const CASES: &'static [Question] = &[
     Question::HasBits(b"\"0\"", Some(&[])),
     Question::HasBits(b"\"1\"", None),
     Question::HasBits(b"\"4A\"", None),
-    // .. by which they compare.
+    // Binaries compare by their bits.
     Question::Binaries(b"\"23\"", b"\"27\"", Equal),
     Question::Binaries(b"\"0a\"", b"\"0A\"", Equal),
     Question::Binaries(b"\"03\"", b"\"23\"", Less),
@@ -181,7 +181,7 @@ fn hash_of<T: Hash>(value: &T) -> u64 {
     state.finish()
 }
 
-// Whether two compare so, and `==` and the hashes tell the same.
+// Whether two values compare in this order, and `==` and the hashes agree with it.
 fn is_order<T: Ord + Hash>(left: &T, right: &T, wanted: Ordering) -> bool {
     let order = left.cmp(right);
     let is_one = left == right;
@@ -245,7 +245,7 @@ fn is_whole(text: &[u8], wanted: Result<Option<i64>, TextFault>) -> bool {
     }
 }
 
-// Whether this is a string that is spelt so, or has this flaw at this place.
+// Whether this is a string with this spelling, or has this flaw at this byte offset.
 fn is_string(text: &[u8], wanted: Option<(Flaw, u64)>) -> bool {
     match (Text::read(text), wanted) {
         (Ok(string), None) => string.spelling() == text,
@@ -261,7 +261,7 @@ fn says(text: &[u8], items: &[Item]) -> bool {
     }
 }
 
-// Whether a binary is spelt so and has these bits, and no others.
+// Whether a binary has this spelling and exactly these bits.
 fn has_bits(bits: &Bits<'_>, text: &[u8], wanted: &[bool]) -> bool {
     if bits.spelling() != text || bits.len() != wanted.len() as u128 {
         return false;
@@ -299,7 +299,7 @@ fn is_right(question: Question) -> bool {
     }
 }
 
-// The first question that has another answer.
+// Returns the number of the first question with another answer, if any.
 fn wrong_case(cases: &[Question]) -> Option<usize> {
     for i in 0..cases.len() {
         if !is_right(cases[i]) {

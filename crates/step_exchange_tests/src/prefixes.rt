@@ -21,7 +21,7 @@ const FILE: &str = "ISO-10303-21;\n\
     ENDSEC;\n\
     END-ISO-10303-21;\n";
 
-// Whether a text is a whole file, or is refused at a place within it or at its end.
+// Whether a text is a whole file, or is refused at an offset within it or at its end.
 fn is_right(alloc: Global, keys: RandomState, text: &[u8], is_whole: bool) -> bool {
     match read_exchange(alloc, keys, text) {
         Ok(_) => is_whole,
@@ -30,8 +30,8 @@ fn is_right(alloc: Global, keys: RandomState, text: &[u8], is_whole: bool) -> bo
     }
 }
 
-// The length of the first prefix that has another answer: each is refused but for the last two,
-// which are whole files.
+// Returns the length of the first prefix with another outcome, if any. Each prefix is refused,
+// except the last two, which are whole files.
 fn wrong_length(rt: &impl RandomSource, alloc: Global, file: &[u8]) -> Option<usize> {
     let Ok(keys) = RandomState::new(rt) else {
         return Some(file.len());

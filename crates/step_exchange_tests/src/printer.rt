@@ -1,7 +1,7 @@
-//! Rows that are printed to a sink with so much room.
+//! Rows that are printed to a sink with limited room.
 
 ghost use Rattle.std.specs.Prelude.{◌≡◌, ◌++◌, ◌∷◌, [], ℕ, List, Option, Bool, false, is_err};
-ghost use Rattle.devices.specs.Prints.{Prints};
+ghost use Rattle.devices.specs.steps.Prints.{Prints};
 ghost use Rattle.devices.specs.Emits.{Emits};
 
 use crate::rows::expect_none;
@@ -12,7 +12,7 @@ use std::alloc::Global;
 use std::io;
 use std::io::Write;
 
-// Takes at most `step` bytes a call, and fails where there is no more room.
+// Takes at most `step` bytes per call, and fails when `room` is used up.
 #[derive(Drop)]
 pub(crate) struct Limited {
     pub(crate) bytes: Vec<u8>,
@@ -57,7 +57,7 @@ fn write_row<S: Sink>(out: &mut S, name: &[u8], value: &[u8]) -> Result<(), Writ
     printer.finish(out)
 }
 
-// How many bytes the sink takes a call, its room, what goes out, and the answer.
+// The step and the room of the sink, the bytes that are written, and the result.
 type Row = (usize, usize, &'static [u8], Result<(), WriteFault>);
 
 const ROWS: &'static [Row] = &[
@@ -78,8 +78,8 @@ const ROWS: &'static [Row] = &[
     (100, 8, b"#12=A;\n", Ok(())),
 ];
 
-// A row of this value that is sent to a sink which takes `step` bytes a call and has this room;
-// none where another answer comes.
+// Writes a row with this value to a sink that takes `step` bytes per call and has this room.
+// Returns the bytes written, or `None` if the result isn't `wanted`.
 fn sent(
     alloc: Global,
     value: &[u8],
@@ -116,12 +116,12 @@ fn wrong_row(alloc: Global, rows: &[Row]) -> Option<usize> {
     None
 }
 
-// Whether bytes are so many, and this is the last of them.
+// Whether there are `count` bytes, from `#` to `last`.
 fn end_in(bytes: &[u8], count: usize, last: u8) -> bool {
     bytes.len() == count && bytes.first() == Some(&b'#') && bytes.last() == Some(&last)
 }
 
-// Whether of a row with a large value so many bytes go out, where there is this room.
+// Whether `count` bytes of a row with a large value are written to a sink with this room.
 fn is_large_sent(
     alloc: Global,
     room: usize,

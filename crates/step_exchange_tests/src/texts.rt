@@ -1,4 +1,4 @@
-//! What a text reads as, or why it is refused.
+//! How a text is read, or why it is refused.
 
 use crate::printer::Limited;
 use crate::rows::expect_none;
@@ -20,7 +20,7 @@ const FILE: &str = "ISO-10303-21;\n\
     ENDSEC;\n\
     END-ISO-10303-21;\n";
 
-// Lists in lists, as deep as they may be.
+// Lists in lists, to the greatest depth.
 const DEEP: &str = "DATA;\n#1=A\
     ((((((((((((((((((((((((((((((((\
     ((((((((((((((((((((((((((((((((\
@@ -40,7 +40,7 @@ const TYPED_TOO_DEEP: &str = "DATA;\n#1=A\
     ))))))))))))))))))))))))))))))))\
     ))))))))))))))))))))))))))))))));\n";
 
-// Two data sections with headings, but for the end of the second.
+// Two data sections with headings, without the end of the second.
 const TWO_SECTIONS: &str = "DATA('a',('GEO'));\n\
     #1=POINT((0.));\n\
     #2=POINT((0.));\n\
@@ -49,8 +49,8 @@ const TWO_SECTIONS: &str = "DATA('a',('GEO'));\n\
     #3=POINT((0.));\n\
     #4=PLACEMENT(#2,$);\n";
 
-// The file with `new` for `old` has as its normal text the file with this text for `old`, or is
-// refused for a fault of this name at this place.
+// A row `(old, new, wanted)`: the file with `new` in place of `old` has this normal text in place
+// of `old`, or is refused with a fault of this name at this byte offset.
 type Row = (
     &'static str,
     &'static str,
@@ -58,7 +58,7 @@ type Row = (
 );
 
 const TEXTS: &'static [Row] = &[
-    // Layout, case and the spelling of names go, and that is all.
+    // Only layout, case and the spelling of names are normalized.
     ("DATA;\n", "DATA;\n", Ok("DATA;\n")),
     (
         "DATA;\n",
@@ -183,7 +183,7 @@ const TEXTS: &'static [Row] = &[
     ("('GEO')", "()", Err(("E10 HeaderFault", 89))),
     ("('GEO')", "('GEO','GEA')", Err(("E10 HeaderFault", 89))),
     ("'GEO'", "'GEO',?", Err(("E1 BadToken", 108))),
-    // What stands behind the end, and nothing at all.
+    // Bytes after the end, and an empty text.
     (
         "END-ISO-10303-21;\n",
         "END-ISO-10303-21;\nx",
@@ -202,7 +202,7 @@ const TEXTS: &'static [Row] = &[
     (FILE, "", Err(("E6 Expected", 0))),
 ];
 
-// The same of data sections and what stands between them.
+// Rows with data sections and what occurs between them.
 const SECTIONS: &'static [Row] = &[
     (
         "DATA;\nENDSEC;\n",
@@ -256,7 +256,7 @@ const SECTIONS: &'static [Row] = &[
     ("END-ISO-10303-21;\n", "", Err(("E6 Expected", 133))),
 ];
 
-// The normal text of a text, or its fault.
+// Returns the normal text of a text, or its fault.
 fn normal_text(alloc: Global, keys: RandomState, text: &[u8]) -> Result<Vec<u8>, TextFault> {
     let exchange = read_exchange(alloc, keys, text)?;
     let mut sink = Counted::new(Limited {
@@ -270,7 +270,7 @@ fn normal_text(alloc: Global, keys: RandomState, text: &[u8]) -> Result<Vec<u8>,
     }
 }
 
-// Whether these are the bytes of the file with this text for `old`.
+// Whether these are the bytes of the file with `text` in place of `old`.
 fn is_file_with(alloc: Global, bytes: &[u8], old: &str, text: &str) -> bool {
     match FILE.replace(alloc, old, text) {
         Ok(wanted) => wanted.as_bytes() == bytes,
@@ -278,7 +278,7 @@ fn is_file_with(alloc: Global, bytes: &[u8], old: &str, text: &str) -> bool {
     }
 }
 
-// Whether a fault is the one that a row asks for.
+// Whether a fault is the one that a row expects.
 fn is_refused_so(fault: TextFault, wanted: Result<&str, (&str, u64)>) -> bool {
     match (fault, wanted) {
         (TextFault::Fault { kind, place }, Err((name, at))) => kind.name() == name && place == at,
@@ -305,7 +305,7 @@ fn is_right(alloc: Global, keys: RandomState, row: &Row) -> bool {
     }
 }
 
-// The first row that comes to something else.
+// Returns the number of the first row with another outcome, if any.
 fn wrong_row(alloc: Global, keys: RandomState, rows: &'static [Row]) -> Option<usize> {
     for i in 0..rows.len() {
         if !is_right(alloc, keys, &rows[i]) {

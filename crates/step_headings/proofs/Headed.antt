@@ -7,23 +7,23 @@ use Rattle.std.proofs.lemmas.Bool.{false≢true}
 use Rattle.std.proofs.lemmas.List.{length-map, take_all, take_more_same, get_or-map}
 use Rattle.step_literals.specs.Items.{text_items}
 use Rattle.step_literals.specs.ItemKeys.{text_key}
-use Rattle.step_literals.specs.ItemKeyLemmas.{texts_are_their_items}
+use Rattle.step_literals.specs.steps.ItemKeyLemmas.{texts_are_their_items}
 use Rattle.step_literals.specs.declared.literal.Text.{Text}
 use Rattle.step_literals.specs.declared.literal.items.Item.{Item}
-use Rattle.step_structures.specs.Trees.{Row}
+use Rattle.step_structures.specs.Trees.{ExchangeRow}
 use Rattle.step_structures.specs.Trees as trees
 use Rattle.step_exchange.specs.declared.section.Section.{Section}
 use Rattle.step_exchange.specs.declared.structure.Exchange.{Exchange}
 use Rattle.step_exchange.specs.Exchanges.{structure}
 use Rattle.step_exchange.specs.Sections.{heading_of, sections_of}
 use Rattle.step_headings.specs.Headings.{Heading, heading_items, headings, SameHeadings}
-use Rattle.step_headings.specs.Views.{heading_seen}
+use Rattle.step_headings.specs.steps.Views.{heading_seen}
 
 abbrev in_structure : trees.Section → Heading
 in_structure x = heading_items x.heading
 
 -- wherever the instances are cut
-of_sections : (from : ℕ) (ss : List Section) (rows : List Row)
+of_sections : (from : ℕ) (ss : List Section) (rows : List ExchangeRow)
     → map in_structure (sections_of from ss rows) ≡ map heading_seen ss
 of_sections from [] rows = refl
 of_sections from (s ∷ ss) rows =
@@ -87,7 +87,7 @@ module _ (xs ys : List Section) where
     λ h. absurd (differ (sym (length-map xs heading_seen) ∙ ap length h ∙ length-map ys heading_seen)),
   )
 
--- What is found of slices of sections is found of those of a structure: these are its headings ..
+-- What is found of slices of sections is found of those of a structure: these are its headings
 pub by_sections : (xs mine others : List Section) (y : Exchange) (b : Bool) → mine ≡ xs → others ≡ y.sections.items
     → (IsTrue b ↔ (map heading_seen mine ≡ map heading_seen others))
     → IsTrue b ↔ (map heading_seen xs ≡ headings (structure y))
@@ -98,7 +98,7 @@ by_sections xs mine others y b front behind same = (
       ∙ sym (ap (λ l. map heading_seen l) behind)),
 )
 
--- .. and those of another structure too
+-- two structures have the same headings if the slices of their sections do
 pub by_structures : (mine others : List Section) (x y : Exchange) (b : Bool) → mine ≡ x.sections.items
     → others ≡ y.sections.items → (IsTrue b ↔ (map heading_seen mine ≡ map heading_seen others))
     → IsTrue b ↔ SameHeadings (structure x) (structure y)

@@ -1,2 +1,2 @@
 pub mod Headings
-pub mod Views
+pub mod steps

@@ -1,22 +1,22 @@
-//! The headings of an exchange structure's data sections, by themselves and compared.
+//! The headings of an exchange structure's data sections, and their comparison.
 
 ghost use Rattle.std.specs.Prelude.{◌≡◌, ◌↔◌, IsTrue, map};
 ghost use Rattle.step_exchange.specs.Exchanges.{structure};
 ghost use Rattle.step_exchange.specs.Sections.{heading_of};
 ghost use Rattle.step_headings.specs.Headings.{SameHeadings, heading_items};
-ghost use Rattle.step_headings.specs.Views.{AreHeadingsOf, heading_seen};
+ghost use Rattle.step_headings.specs.steps.Views.{AreHeadingsOf, heading_seen};
 
 use step_exchange::section::Section;
 use step_exchange::structure::Exchange;
 
-/// The headings of the data sections of an exchange structure, in order: of each section its name and
-/// that of its schema, or none. They live as long as the text of the structure.
+/// The headings of the data sections of an exchange structure, in order: for each section its name
+/// and the name of its schema, if it has them. They borrow the text of the structure.
 #[derive(Drop)]
 pub struct Headings<'a> {
     sections: Vec<Section<'a>>,
 }
 
-/// Whether the headings of two sections are the same.
+/// Whether the headings of two sections are equal.
 fn is_same<'a, 'b>(section: &Section<'a>, other: &Section<'b>) -> bool
     ensures { IsTrue result ↔ (heading_items (heading_of section.now.heading)
         ≡ heading_items (heading_of other.now.heading)) }
@@ -30,7 +30,7 @@ fn is_same<'a, 'b>(section: &Section<'a>, other: &Section<'b>) -> bool
     }
 }
 
-/// Whether these are equally many sections, with the same headings in turn.
+/// Whether two lists have equally many sections, with equal headings in turn.
 fn are_alike<'a, 'b>(sections: &[Section<'a>], others: &[Section<'b>]) -> bool
     ensures { IsTrue result ↔ (map heading_seen sections.now ≡ map heading_seen others.now) }
 {
@@ -46,7 +46,8 @@ fn are_alike<'a, 'b>(sections: &[Section<'a>], others: &[Section<'b>]) -> bool
 }
 
 impl<'a> Headings<'a> {
-    /// The headings of this structure, whose header and instances are let go. It takes no memory.
+    /// Returns the headings of a structure, and drops its header and instances. It allocates no
+    /// memory.
     pub fn of(exchange: Exchange<'a>) -> Headings<'a>
         ensures { AreHeadingsOf result (structure exchange.entry) }
     {
@@ -54,9 +55,9 @@ impl<'a> Headings<'a> {
         Headings { sections }
     }
 
-    /// Whether a structure has equally many data sections, with these headings in turn: no heading in
-    /// both, or names and schemas of the same characters, however they are spelt. Sections without
-    /// instances count as all others.
+    /// Whether a structure has equally many data sections, with these headings in turn. Two
+    /// headings are equal if both are absent, or if their names and schemas have the same
+    /// characters, however they are spelt. Sections without instances count like all others.
     pub fn are_those_of<'b>(&self, other: &Exchange<'b>) -> bool
         ensures { IsTrue result ↔ AreHeadingsOf self.now (structure other.now) }
     {
@@ -64,9 +65,9 @@ impl<'a> Headings<'a> {
     }
 }
 
-/// Whether two exchange structures have equally many data sections, with the same headings in turn:
-/// no heading in both, or names and schemas of the same characters, however they are spelt. Sections
-/// without instances count as all others.
+/// Whether two exchange structures have equally many data sections, with equal headings in turn.
+/// Two headings are equal if both are absent, or if their names and schemas have the same
+/// characters, however they are spelt. Sections without instances count like all others.
 pub fn same_headings<'a, 'b>(exchange: &Exchange<'a>, other: &Exchange<'b>) -> bool
     ensures { IsTrue result ↔ SameHeadings (structure exchange.now) (structure other.now) }
 {

@@ -16,7 +16,7 @@ use Rattle.step_literals.specs.Bytes.{Each, Stops, is_hex}
 use Rattle.step_literals.specs.Strings.{is_high}
 use Rattle.step_literals.proofs.Runs.{front_back}
 use Rattle.step_literals.proofs.PieceSpelling.{both, each_first}
-use Rattle.step_literals.specs.Characters.{high_run, hex_run, BeginsCharacter, BeginsNone, BeginsHigh, BeginsNoHigh}
+use Rattle.step_literals.specs.steps.Characters.{high_run, hex_run, BeginsCharacter, BeginsNone, BeginsHigh, BeginsNoHigh}
 
 -- a run of two parts
 pub prefix_through : (p : ℕ → Bool) (xs ys : List ℕ) → Each p xs → prefix_len p (xs ++ ys) ≡ length xs + prefix_len p ys

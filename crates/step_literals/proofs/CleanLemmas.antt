@@ -6,7 +6,7 @@ use Rattle.std.proofs.lemmas.Bool.Decides.{nat_tests}
 use Rattle.std.specs.Cmp.Lexicographic.{bytes_decides}
 use Rattle.step_literals.proofs.Runs.{front_back}
 use Rattle.step_literals.specs.Strings.{clean, begins_with}
-use Rattle.step_literals.specs.Directives.{Skips}
+use Rattle.step_literals.specs.steps.Directives.{Skips}
 
 -- what is passed in two parts
 pub skips_on : {n m : ℕ} {before between after : List ℕ} → Skips n before between → Skips m between after

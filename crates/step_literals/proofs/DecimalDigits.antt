@@ -17,8 +17,8 @@ use Rattle.std.proofs.lemmas.Bool.Decides.{nat_tests}
 use Rattle.step_literals.specs.Bytes.{is_digit}
 use Rattle.step_literals.specs.Decimals.{is_negative}
 use Rattle.step_literals.specs.DecimalKeys.{front_write, front_writes}
-use Rattle.step_literals.specs.DigitStrings.{significant, is_significant, has_digit, digit, front_value, end_of, significant_digits, is_below_zero}
-use Rattle.step_literals.specs.MagnitudeLemmas.{both, all_digits}
+use Rattle.step_literals.specs.steps.DigitStrings.{significant, is_significant, has_digit, digit, front_value, end_of, significant_digits, is_below_zero}
+use Rattle.step_literals.specs.steps.MagnitudeLemmas.{both, all_digits}
 
 byte_value : (b : ℕ) → is_digit b ≡ true → (48 ≤ b) × (b - 48 ≡ digit_value b)
 byte_value b h = (grind (arith, nat_tests), grind (arith, nat_tests))
@@ -107,7 +107,7 @@ pub order_told : (r : Ordering) (a b x y : ℕ) → r ≡ nat_cmp a b → (a ≡
 order_told r a b x y h apart less greater = h ∙ nat_cmp_is x y (nat_cmp a b)
     (matched (nat_cmp a b) (ranks a b) less (λ e. absurd (apart e)) greater)
 
--- digits that a hasher is fed: one more, at which it is told a number ..
+-- digits that a hasher is fed: one more, at which it is told a number
 module _ {S : Type 0} (write : S → List ℕ → S) (start s t : S) (xs : List ℕ) (n : ℕ)
     (fed_before : s ≡ fold write start (front_writes n xs)) where
   one_more_write : (b : Bool) → (n % 19 == 18) ≡ b
@@ -121,7 +121,7 @@ module _ {S : Type 0} (write : S → List ℕ → S) (start s t : S) (xs : List 
       ∙ ap (λ k. fold write start (front_writes n xs ++ fed.u64 k)) worth
       ∙ ap (fold write start) (sym (one_more_write true (eq-eqb (n % 19) 18 at)))
 
-  -- .. and one at which it isn't
+  -- one more digit at which the hasher is fed no number
   pub fed_before_it : (n % 19 ≡ 18 → ⊥) → t ≡ s → t ≡ fold write start (front_writes (n + 1) xs)
   fed_before_it other same = by (n % 19 == 18) refl
     where

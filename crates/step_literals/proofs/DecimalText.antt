@@ -19,7 +19,7 @@ use Rattle.step_literals.specs.Tokens.{is_sign, is_e, sign_len, IsSign, IsDigits
 use Rattle.step_literals.specs.Numbers.{exponent_text, exponent_digits}
 use Rattle.step_literals.specs.Literals.{IsNumber, IsDecimal}
 use Rattle.step_literals.specs.Decimals.{mantissa_text, mantissa_digits, part_digits, is_negative, signed, exponent, finest}
-use Rattle.step_literals.specs.DigitStrings.{shift_of}
+use Rattle.step_literals.specs.steps.DigitStrings.{shift_of}
 use Rattle.step_literals.proofs.NumberLimits.{no_e, e_is, digits_no_e, signs_no_e, each_append, prefix_passed, no_exponent_text, exponent_behind_e, drop_one_more, exponent_each}
 use Rattle.step_literals.proofs.NumberLemmas.{sign_taken}
 
@@ -157,7 +157,7 @@ module _ (s w tail p : List ℕ) (hs : IsSign s) (hw : IsDigits w) (ht : IsTail 
   pub behind_is : drop (1 + prefix_len no_dot ((s ++ w) ++ tail)) ((s ++ w) ++ tail) ≡ p
   behind_is = ht.behind (s ++ w) (each_append no_dot s w (signs_no_dot s hs) (digits_no_dot w hw.1))
 
-  -- .. of a number of this form, before an exponent
+  -- the parts of a number of this form, before an exponent
   module _ (x : List ℕ) (hp : Each is_digit p) (hx : IsExponent x) (h : Each no_e ((s ++ w) ++ tail))
       (stops : prefix_len is_digit (tail ++ x) ≡ 0) (cut : behind_one (tail ++ x) ≡ p ++ x) where
     unsigned_is : unsigned (((s ++ w) ++ tail) ++ x) ≡ w ++ (tail ++ x)
@@ -256,7 +256,7 @@ shift_of_exponent t h = abs_of (exponent t +ℤ pos finest) _ (units_of_exponent
     (digits_value 10 (exponent_digits t)) (length (part_digits t)) finest finest_is (part_short t h)
     (exponent_small t h))
 
--- .. and how many it is
+-- the power of ten of a number within the limits, in units
 pub shift_is : (t : List ℕ) (x p : ℕ) (b : Bool) → ∥ IsDecimal t ∥₁ → x ≡ digits_value 10 (exponent_digits t)
     → p ≡ length (part_digits t) → b ≡ is_negative (exponent_text t)
     → cond b (1000400 - p - x) (1000400 - p + x) ≡ shift_of t

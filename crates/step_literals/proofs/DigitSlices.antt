@@ -11,8 +11,8 @@ use Rattle.std.proofs.lemmas.Bool.{cases_lt}
 use Rattle.std.proofs.lemmas.Bool.Decides.{nat_tests}
 use Rattle.step_literals.specs.Bytes.{is_digit, Each}
 use Rattle.step_literals.specs.DecimalKeys.{front_write, front_writes}
-use Rattle.step_literals.specs.DigitStrings.{significant, is_significant, digit, front_value, end_of}
-use Rattle.step_literals.specs.MagnitudeLemmas.{both, all_digits, front_whole, past_end}
+use Rattle.step_literals.specs.steps.DigitStrings.{significant, is_significant, digit, front_value, end_of}
+use Rattle.step_literals.specs.steps.MagnitudeLemmas.{both, all_digits, front_whole, past_end}
 use Rattle.step_literals.proofs.DecimalDigits.{end_test, significant_cut}
 use Rattle.step_literals.proofs.DigitLemmas.{value_more}
 
@@ -118,7 +118,7 @@ value_wraps ds i v d total digits lt so_far e =
     after_wraps (drop (i + 1) ds) ((v * 10 % 2 ^ 64 + d) % 2 ^ 64) (v * 10 + (get_or ds i 0 - 48)) same
     ∙ ap (λ k. k % 2 ^ 64) (value_more ds i v (digits_value_after 10 v (drop i ds)) digits lt refl) ∙ so_far
 
--- .. and no more of them
+-- after the last digit, the value is the total
 pub value_all : (ds : List ℕ) (i v total : ℕ) → length ds ≤ i → v < 2 ^ 64 → digits_value_after 10 v (drop i ds) % 2 ^
     64 ≡ total → v ≡ total
 value_all ds i v total h small e =

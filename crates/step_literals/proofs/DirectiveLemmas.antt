@@ -12,7 +12,7 @@ use Rattle.std.proofs.lemmas.List.Folds.{length-prefix_len}
 use Rattle.std.proofs.lemmas.List.Sums.{prefix_len-le-length}
 use Rattle.step_literals.specs.Bytes.{Each, Stops, is_hex}
 use Rattle.step_literals.specs.Strings.{Piece, apostrophe, backslash, shift, page, code, groups, run, byte, clean, is_high, begins_with, shift_at, code_at, groups_at, names_page, piece_at, piece_len, AreRead, IsReadable, IsBrokenAt}
-use Rattle.step_literals.specs.Directives.{Completes}
+use Rattle.step_literals.specs.steps.Directives.{Completes}
 use Rattle.step_literals.proofs.Runs.{front_back}
 use Rattle.step_literals.proofs.CleanLemmas.{begins_split}
 use Rattle.step_literals.proofs.Found.{Found, is_not, before_found, drop_found}

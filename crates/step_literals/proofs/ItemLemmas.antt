@@ -5,16 +5,16 @@ use Rattle.std.specs.List.{prefix_len}
 use Rattle.std.specs.Str.Parse.{digits_value}
 use Rattle.step_literals.specs.Bytes.{Stops, is_hex}
 use Rattle.step_literals.specs.Strings.{Piece, apostrophe, code, run, code_at, clean, begins_with, is_high, piece_at, piece_len, AreRead}
-use Rattle.step_literals.specs.Directives.{Completes}
-use Rattle.step_literals.specs.Characters.{hex_run, high_run, BeginsHigh, BeginsNoHigh}
+use Rattle.step_literals.specs.steps.Directives.{Completes}
+use Rattle.step_literals.specs.steps.Characters.{hex_run, high_run, BeginsHigh, BeginsNoHigh}
 use Rattle.step_literals.specs.Items.{items_of, pieces_within, pieces_of, group_items, group_items_within, run_items}
-use Rattle.step_literals.specs.Rests.{clean_items, rest_items, left_items, behind, IsOver, GoesOn, shown, Goes, Steps, Shows, RowSteps}
+use Rattle.step_literals.specs.steps.Rests.{clean_items, rest_items, left_items, behind, IsOver, GoesOn, shown, Goes, Steps, Shows, RowSteps}
 use Rattle.step_literals.specs.declared.literal.rest.Rest.{Rest}
 use Rattle.step_literals.proofs.PieceLemmas.{option_weaker}
 use Rattle.step_literals.proofs.CharacterLemmas.{digits_full, run_first, high_run_behind, behind_high_run, shorter_behind, utf8_behind, utf8_refused}
 use Rattle.step_literals.specs.declared.literal.rest.Inside.{Inside}
 use Rattle.step_literals.specs.declared.literal.rest.Inside.TheVariants.{Nothing, Groups, Characters, Bytes}
-use Rattle.step_literals.specs.Inside.{is_sound, run_inside}
+use Rattle.step_literals.specs.steps.Inside.{is_sound, run_inside}
 use Rattle.std.proofs.lemmas.Bool.{false≢true}
 use Rattle.std.proofs.lemmas.List.Folds.{length-prefix_len}
 use Rattle.std.proofs.lemmas.List.Sums.{prefix_len-le-length}

@@ -6,9 +6,9 @@ use Rattle.std.proofs.lemmas.Int.{ints, clamps}
 use Rattle.std.proofs.Math.Nat.{mul_assoc, mul-lt-mul_of_pos_right, lt_of_mul-lt-mul_right}
 use Rattle.step_literals.specs.Literals.{IsDecimal}
 use Rattle.step_literals.specs.Decimals.{mantissa, exponent, ten_to, units, finest, ComparedAtLesserExponent}
-use Rattle.step_literals.specs.DigitStrings.{shift_of}
-use Rattle.step_literals.specs.MagnitudeLemmas.{ten_pos}
-use Rattle.step_literals.specs.NormalFormLemmas.{signed_times}
+use Rattle.step_literals.specs.steps.DigitStrings.{shift_of}
+use Rattle.step_literals.specs.steps.MagnitudeLemmas.{ten_pos}
+use Rattle.step_literals.specs.steps.NormalFormLemmas.{signed_times}
 use Rattle.step_literals.proofs.DecimalText.{shift_of_exponent}
 use Rattle.step_literals.proofs.UnitLemmas.{times_pos, times_cancel}
 

@@ -104,7 +104,7 @@ exponent_no_digits_of (y ∷ ys) r unsigned hr hu zero (x ∷ xs) rest e pos is 
     no_digits is.1 is.2 rest r unsigned is.3 is.4 (sym (append_assoc is.1 is.2 rest) ∙ ap (λ l. l ++ rest) (sym is.5)
     ∙ q ∙ sym hr) hu zero
 
--- .. or no digits follow it
+-- no exponent if no digits follow the `E`
 pub exponent_no_digits : (l rest unsigned : List ℕ) (s d : ℕ) → rest ≡ drop 1 l → s ≡ sign_len rest
     → unsigned ≡ drop s rest → d ≡ prefix_len is_digit unsigned → d ≡ 0 → IsLongestExponent [] l
 exponent_no_digits l rest unsigned s d hr hs hu hd zero =

@@ -76,7 +76,7 @@ exponent_with_digits e sign ds after he hs hd stop = record {
   longest = λ other rest q is. exponent_fits e sign ds after hs hd stop other rest q is;
 }
 
--- .. and where there is none
+-- the longest exponent is empty if no exponent begins the text
 pub exponent_none : (after : List ℕ) → ((other rest : List ℕ) → other ++ rest ≡ after → 0 < length other
     → IsExponent other → ⊥) → IsLongestExponent [] after
 exponent_none after h = record {

@@ -115,7 +115,7 @@ few_digits t h few =
       pow-le-pow_right {n = 10} (omega arith) size,
     )
 
--- .. as the code cuts them
+-- the exponent digits as the code cuts them
 pub exponent_cut : (t x ds : List ℕ) (n : ℕ) → x ≡ exponent_text t → n ≡ sign_len x → ds ≡ drop n x
     → ds ≡ exponent_digits t
 exponent_cut t x ds n hx hn hd = hd ∙ ap (λ k. drop k x) hn ∙ ap (λ l. drop (sign_len l) l) hx

@@ -6,7 +6,7 @@ use Rattle.std.proofs.lemmas.Bool.Decides.{nat_tests}
 use Rattle.std.proofs.lemmas.List.Folds.{length-prefix_len}
 use Rattle.step_literals.specs.Bytes.{is_hex}
 use Rattle.step_literals.specs.Strings.{Piece, backslash, shift, page, groups, clean, begins_with, shift_at, code_at, groups_at, names_page, piece_at}
-use Rattle.step_literals.specs.Directives.{Skips, Completes}
+use Rattle.step_literals.specs.steps.Directives.{Skips, Completes}
 use Rattle.step_literals.proofs.CleanLemmas.{skips_on, begins_split}
 
 pub option_weaker : {A : Type 0} {P P' : Type 0} {Q Q' : A → Type 0} (o : Option A) → MatchOption o P Q → (P → P')

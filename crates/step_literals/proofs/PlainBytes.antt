@@ -42,7 +42,7 @@ plain_first b bs h =
     ∙ pieces_step (b ∷ clean bs) (byte b) (plain_piece b (clean bs) h))
     ∙ ap (λ ws. ws ++ content_writes bs) (code_byte b true small refl)
 
--- .. so what is left to feed leads to the same
+-- after a plain byte is fed, feeding the rest gives what feeding all gives
 pub plain_fed : {S : Type 0} (write : S → List ℕ → S) (s t whole : S) (b : ℕ) (bs after : List ℕ) → is_plain b ≡ true
     → bs ≡ b ∷ after → t ≡ fold write s (fed.u8 b) → fold write s (content_writes bs) ≡ whole
     → fold write t (content_writes after) ≡ whole

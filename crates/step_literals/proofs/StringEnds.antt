@@ -10,7 +10,7 @@ use Rattle.step_literals.proofs.StringLemmas.{is_quote, no_quote}
 abbrev pub Ended : List ℕ → Type 0
 Ended l = (content : List ℕ) × (after : List ℕ) × (l ≡ doubled content ++ 39 ∷ after) × Stops is_quote after
 
--- .. or up to bytes with no apostrophe
+-- bytes in which apostrophes are in pairs, up to bytes with no apostrophe
 abbrev pub Unended : List ℕ → Type 0
 Unended l = (content : List ℕ) × (left : List ℕ) × (l ≡ doubled content ++ left) × Each no_quote left
 

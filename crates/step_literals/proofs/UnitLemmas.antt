@@ -15,10 +15,10 @@ use Rattle.std.proofs.Math.Bool.{beq}
 use Rattle.std.proofs.Math.Nat.{pow-suc, pow-le-pow_right, mul-le-mul_right, mul-lt-mul_of_pos_right, le_of_mul-le-mul_right}
 use Rattle.step_literals.specs.declared.literal.decimals.Digits.{Digits}
 use Rattle.step_literals.specs.Decimals.{signed, units, finest, ten_to, turned, IsWhole}
-use Rattle.step_literals.specs.DigitStrings.{is_significant, has_digit, magnitude, digit, front_value, end_of, top, significant_digits, shift_of, is_below_zero}
-use Rattle.step_literals.specs.Digits.{digits_of, magnitude_of, worth_of}
-use Rattle.step_literals.specs.MagnitudeLemmas.{digit_small, ten_pos, magnitude_leads, magnitude_none, magnitude_below, scaled, front_below, front_whole}
-use Rattle.step_literals.specs.NormalFormLemmas.{no_tens, signed_times, signed_same, units_by_digits, magnitude_end, magnitude_some, end_value, end_within, end_last, end_some}
+use Rattle.step_literals.specs.steps.DigitStrings.{is_significant, has_digit, magnitude, digit, front_value, end_of, top, significant_digits, shift_of, is_below_zero}
+use Rattle.step_literals.specs.steps.Digits.{digits_of, magnitude_of, worth_of}
+use Rattle.step_literals.specs.steps.MagnitudeLemmas.{digit_small, ten_pos, magnitude_leads, magnitude_none, magnitude_below, scaled, front_below, front_whole}
+use Rattle.step_literals.specs.steps.NormalFormLemmas.{no_tens, signed_times, signed_same, units_by_digits, magnitude_end, magnitude_some, end_value, end_within, end_last, end_some}
 use Rattle.step_literals.proofs.DecimalDigits.{matched}
 use Rattle.step_literals.proofs.DecimalText.{finest_is}
 
@@ -178,7 +178,7 @@ floor (x ∷ xs) s f n sig e = by (cases_lt (top (x ∷ xs) s) f)
         rw z (omega arith, omega (arith, le, magnitude_below (x ∷ xs) s sig))
     by (inr h) = floor_by (x ∷ xs) s f n sig (omega (arith, e, h)) (cases_lt n (length (x ∷ xs)))
 
--- .. or neither
+-- if no digits but zeros follow the point, the number is the whole number
 exact_of : (xs : List ℕ) (s f n : ℕ) → is_significant xs ≡ true → 0 < length xs → n + f ≡ length xs + s
     → end_of (length xs) xs ≤ n → (n < length xs) ⊎ (length xs ≤ n) → magnitude xs s ≡ front_value n xs * 10 ^ f
 unfolding magnitude
@@ -336,7 +336,7 @@ whole_told u b w z (Err x) None h e fits s = λ n small worth.
     fits (subst (FitsSigned w64) (times_cancel n (signed b w) (10 ^ finest) (ten_pos finest) (sym worth ∙ h) ∙ sym e)
     small)
 
--- .. of units that are the same
+-- the whole number of equal units is the same
 pub whole_same : (u v : ℤ) (o : Option ℤ) → v ≡ u
     → MatchOption o ((n : ℤ) → FitsSigned w64 n → IsWhole u n → ⊥) (λ n. IsWhole u n)
     → MatchOption o ((n : ℤ) → FitsSigned w64 n → IsWhole v n → ⊥) (λ n. IsWhole v n)

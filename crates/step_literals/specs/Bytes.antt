@@ -15,16 +15,17 @@ is_word_byte b = is_letter b || is_digit b
 abbrev pub is_hex : ℕ → Bool
 is_hex b = is_digit b || (nat_le 65 b && nat_le b 70) || (nat_le 97 b && nat_le b 102)
 
--- what is a character by itself wherever it stands in a string: all that is printed but apostrophes and backslashes
+-- the bytes that are characters by themselves anywhere in a string: all printed ones but apostrophes and
+-- backslashes
 abbrev pub is_plain : ℕ → Bool
 is_plain b = (nat_le 32 b && nat_le b 38) || (nat_le 40 b && nat_le b 91) || (nat_le 93 b && nat_le b 126)
 
--- each element passes
+-- p holds of each element
 abbrev pub Each : (ℕ → Bool) → List ℕ → Type 0
 Each p [] = Unit {0}
 Each p (x ∷ xs) = (p x ≡ true) × Each p xs
 
--- the list doesn't begin with an element that passes
+-- the list is empty, or p doesn't hold of its first element
 abbrev pub Stops : (ℕ → Bool) → List ℕ → Type 0
 Stops p [] = Unit {0}
 Stops p (b ∷ bs) = p b ≡ false

@@ -1,4 +1,4 @@
--- Strings compared by their characters: each as its kind and two numbers.
+-- Strings are compared by their characters, each as its kind and two numbers.
 use Rattle.std.specs.Prelude.{◌≡◌, ℕ, List, [], ◌∷◌, ◌++◌, nat_eq, nat_lt, if◌then◌else◌}
 use Rattle.std.specs.Bool.{Decides}
 use Rattle.std.specs.Cmp.Lexicographic.{pointwise}
@@ -11,7 +11,7 @@ use Rattle.step_literals.specs.declared.literal.items.Item.{Item}
 use Rattle.step_literals.specs.declared.literal.items.Item.TheVariants.{Code, Page, Raw}
 use Rattle.step_literals.specs.declared.literal.Text.{Text}
 
--- codes come before characters of a page, and these before bytes
+-- codes come before characters of a page, and characters of a page before bytes
 abbrev pub item_key : Item → List ℕ
 item_key (Code c) = 0 ∷ c ∷ 0 ∷ []
 item_key (Page p b) = 1 ∷ p ∷ b ∷ []
@@ -24,12 +24,12 @@ items_key (i ∷ is) = item_key i ++ items_key is
 abbrev pub text_key : Text → List ℕ
 text_key t = items_key (text_items t)
 
--- strings are equal where their characters are
+-- strings are equal exactly if their characters are
 abbrev pub TextsAreTheirItems : Type 0
 TextsAreTheirItems = (s t : Text) → Decides (on text_key (pointwise nat_eq) s t) (text_items s ≡ text_items t)
 
--- what a hasher is fed: each character, so that what is fed of one never begins what is fed of another, and then a byte
--- that shows the end
+-- What a hasher is fed: each character, and then a byte that marks the end. The bytes of one character are
+-- never a prefix of another's.
 abbrev pub code_writes : ℕ → List (List ℕ)
 code_writes c = if nat_lt c 128 then fed.u8 c else (fed.u8 128 ++ fed.u32 c)
 
@@ -38,7 +38,7 @@ item_writes (Code c) = code_writes c
 item_writes (Page p b) = fed.u8 129 ++ (fed.u8 p ++ fed.u8 b)
 item_writes (Raw b) = fed.u8 130 ++ fed.u8 b
 
--- .. of what stands between apostrophes
+-- what a hasher is fed of the content between apostrophes
 abbrev pub content_writes : List ℕ → List (List ℕ)
 content_writes bs = flat_map item_writes (items_of 1 (pieces_of (clean bs)))
 

@@ -1,4 +1,4 @@
--- Literals as they are spelt, and why bytes are none.
+-- The spellings of literals.
 use Rattle.std.specs.Prelude.{ℕ, List, ◌⊎◌}
 use Rattle.step_literals.specs.Tokens.{Spells, string, integer, real}
 use Rattle.step_literals.specs.Numbers.{IsShortNumber}

@@ -1,5 +1,5 @@
--- The table of tokens of the exchange structure (ISO 10303-21, 5.2 and 6), and which token stands at
--- the front of a text.
+-- The table of tokens of the exchange structure (ISO 10303-21, 5.2 and 6), and which token is at the start of a
+-- text.
 use Rattle.std.specs.Prelude.{◌≡◌, ℕ, ◌<◌, ◌≤◌, Bool, true, ◌==◌, ◌||◌, List, [], ◌∷◌, ◌++◌, length, take, drop, map, codes, if◌then◌else◌}
 use Rattle.std.specs.Char.{to_ascii_lowercase}
 use Rattle.step_literals.specs.Bytes.{is_digit, is_letter, is_word_byte, is_hex, Each, Stops}
@@ -22,7 +22,7 @@ IsSign [] = Unit {0}
 IsSign (b ∷ []) = is_sign b ≡ true
 IsSign (b ∷ c ∷ bs) = ⊥
 
--- how many signs, 0 or 1, a text begins with
+-- the number of signs, 0 or 1, at the start of a text
 abbrev pub sign_len : List ℕ → ℕ
 sign_len [] = 0
 sign_len (b ∷ bs) = if is_sign b then 1 else 0
@@ -77,27 +77,28 @@ Spells real t = (sign whole part exponent : List ℕ) × IsSign sign × IsDigits
     × (t ≡ sign ++ whole ++ 46 ∷ part ++ exponent)
 Spells element t = (word : List ℕ) × IsKeyword word × (t ≡ 46 ∷ word ++ 46 ∷ [])
 Spells string t = (content : List ℕ) × (t ≡ 39 ∷ doubled content ++ 39 ∷ [])
--- a digit from 0 to 3 tells how many bits of the first hex digit are left out: none where there is none
+-- a digit from 0 to 3 is the number of bits of the first hexadecimal digit that are left out; 0 if there is no
+-- hexadecimal digit
 Spells binary t = (unused : ℕ) × (digits : List ℕ) × (48 ≤ unused) × (unused ≤ 51) × Each is_hex digits
     × (digits ≡ [] → unused ≡ 48)
     × (t ≡ 34 ∷ unused ∷ digits ++ 34 ∷ [])
 Spells mark t = (b : ℕ) × (is_mark b ≡ true) × (t ≡ b ∷ [])
 
--- the table allows the token before what follows it: a string ends only where no apostrophe follows
+-- the table allows the token before what follows it: a string ends only if no apostrophe follows
 abbrev pub Allows : TokenKind → List ℕ → List ℕ → Type 0
 Allows string t after = Spells string t × Stops (λ b. b == 39) after
 Allows kind t after = Spells kind t
 
--- t is the longest token that the table allows at the front of a text, and after is what follows it
+-- t is the longest token that the table allows at the start of a text, and `after` is what follows it
 pub record IsNext (kind : TokenKind) (t after : List ℕ) : Type 0 where
   pub allowed : Allows kind t after
   pub longest : (k : TokenKind) (other rest : List ℕ) → other ++ rest ≡ t ++ after → Allows k other rest
       → length other ≤ length t
 
--- the longest token at the front of a text is of this kind, and has so many bytes
+-- the longest token at the start of a text is of this kind, and has n bytes
 abbrev pub IsNextLength : TokenKind → List ℕ → ℕ → Type 0
 IsNextLength kind left n = (n ≤ length left) × IsNext kind (take n left) (drop n left)
 
--- the table allows no token at the front of the text
+-- the table allows no token at the start of the text
 abbrev pub NoneAt : List ℕ → Type 0
 NoneAt left = (k : TokenKind) (other rest : List ℕ) → left ≡ other ++ rest → Allows k other rest → ⊥

@@ -1,4 +1,4 @@
--- The value of a word: letters have no case (ISO 10303-21, 5.2).
+-- The value of a word: case is ignored (ISO 10303-21, 5.2).
 use Rattle.std.specs.Prelude.{ℕ, List, map}
 use Rattle.std.specs.Char.{to_ascii_uppercase}
 

@@ -4,7 +4,8 @@ ghost use Rattle.step_literals.specs.Tokens.{binary, IsNextLength, NoneAt};
 
 use crate::bytes::hex_len;
 
-/// How long the binary is that begins with a quote at the front of the bytes, if one stands there.
+/// Returns the length of the binary that begins with the quote at the start of `bytes`, or `None`
+/// if there is no binary.
 pub fn binary_len(bytes: &[u8]) -> Option<usize>
     requires { take 1 bytes.now ≡ 34 ∷ [] }
     ensures { MatchOption result (NoneAt bytes.now) (λ n. IsNextLength binary bytes.now n) }

@@ -20,14 +20,14 @@ pub fn is_letter(b: u8) -> bool
 pub fn is_word_byte(b: u8) -> bool
     ensures { result ≡ is_word_byte b }
 {
-    // Most words are in capitals.
+    // Upper case is tested first, since most words are in capitals.
     if matches!(b, b'A'..=b'Z') {
         return true;
     }
     is_letter(b) || is_digit(b)
 }
 
-/// How many digits the bytes begin with.
+/// Returns the number of digits at the start of `bytes`.
 pub fn digits_len(bytes: &[u8]) -> usize
     ensures within { result ≤ length bytes.now }
     ensures len { result ≡ prefix_len is_digit bytes.now }
@@ -35,7 +35,7 @@ pub fn digits_len(bytes: &[u8]) -> usize
     bytes.iter().take_while(|b| is_digit(**b)).count()
 }
 
-/// How many bytes of a word the bytes begin with.
+/// Returns the number of word bytes at the start of `bytes`.
 pub fn word_len(bytes: &[u8]) -> usize
     ensures within { result ≤ length bytes.now }
     ensures len { result ≡ prefix_len is_word_byte bytes.now }
@@ -59,14 +59,14 @@ pub fn is_hex(b: u8) -> bool
     matches!(b, b'0'..=b'9' | b'A'..=b'F' | b'a'..=b'f')
 }
 
-/// Whether a byte of a string is a character by itself, whatever stands around it.
+/// Whether a byte of a string is a character by itself, whatever is around it.
 pub fn is_plain(b: u8) -> bool
     ensures { result ≡ is_plain b }
 {
     matches!(b, b' '..=b'&' | b'('..=b'[' | b']'..=b'~')
 }
 
-/// How many hexadecimal digits the bytes begin with.
+/// Returns the number of hexadecimal digits at the start of `bytes`.
 pub fn hex_len(bytes: &[u8]) -> usize
     ensures within { result ≤ length bytes.now }
     ensures len { result ≡ prefix_len is_hex bytes.now }
@@ -74,7 +74,7 @@ pub fn hex_len(bytes: &[u8]) -> usize
     bytes.iter().take_while(|b| is_hex(**b)).count()
 }
 
-/// The value of a hexadecimal digit.
+/// Returns the value of a hexadecimal digit.
 pub fn hex_value(digit: u8) -> u8
     requires { is_hex digit ≡ true }
     ensures value { result ≡ digit_value digit }

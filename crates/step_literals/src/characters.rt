@@ -1,9 +1,9 @@
-// UTF-8 in the content of a string, where control bytes may stand between its bytes.
+// UTF-8 in the content of a string, where control bytes may be between its bytes.
 ghost use Rattle.std.specs.Prelude.{◌≡◌, ◌≤◌, take, length, MatchOption};
 ghost use Rattle.std.specs.Str.{is_utf8};
 ghost use Rattle.std.specs.Str.Parse.{digits_value};
 ghost use Rattle.step_literals.specs.Strings.{clean};
-ghost use Rattle.step_literals.specs.Characters.{
+ghost use Rattle.step_literals.specs.steps.Characters.{
   high_run,
   number_digits,
   behind_number,
@@ -17,7 +17,7 @@ ghost use Rattle.step_literals.specs.Characters.{
 use crate::clean::{skip, take_clean};
 use std::str;
 
-/// The longest front of the bytes that is UTF-8.
+/// Returns the longest prefix of the bytes that is UTF-8.
 fn utf8_front(bytes: &[u8]) -> &str
     ensures front { result.now ≡ take (length result.now) bytes.now }
     ensures longest { IsLongestUtf8 bytes.now result.now }
@@ -34,14 +34,15 @@ fn utf8_front(bytes: &[u8]) -> &str
     }
 }
 
-/// The character that the bytes begin with in UTF-8.
+/// Returns the character in UTF-8 that the bytes begin with, if any.
 fn first_character(bytes: &[u8]) -> Option<char>
     ensures { MatchOption result (BeginsNone bytes.now) (λ c. IsFirstCharacter bytes.now c) }
 {
     utf8_front(bytes).chars().next()
 }
 
-/// The first bytes from 32 up, at most as many as a character has, and how many they are.
+/// Returns the first bytes from 32 up, at most four, which is what a character has, and their
+/// count.
 fn window_of(bytes: &[u8]) -> ([u8; 4], usize)
     ensures within { result.1 ≤ 4 }
     ensures same { take result.1 result.0 ≡ take 4 (clean bytes.now) }
@@ -58,7 +59,8 @@ fn window_of(bytes: &[u8]) -> ([u8; 4], usize)
     (window, 4)
 }
 
-/// The character from 128 up that stands at the front in UTF-8, and what follows it.
+/// Returns the character from 128 up that the bytes begin with in UTF-8, if any, and what follows
+/// it.
 pub fn character_at(bytes: &[u8]) -> Option<(u32, &[u8])>
     ensures { MatchOption result (BeginsNoHigh (clean bytes.now))
         (λ found. BeginsHigh (clean bytes.now) found.0 (clean found.1.now)) }
@@ -71,7 +73,7 @@ pub fn character_at(bytes: &[u8]) -> Option<(u32, &[u8])>
     Some((u32::from(character), skip(bytes, character.len_utf8())))
 }
 
-/// Whether the bytes from 128 up at the front are UTF-8, all of them.
+/// Whether all bytes from 128 up at the start are UTF-8.
 pub fn is_utf8_run(bytes: &[u8]) -> bool
     ensures { result ≡ is_utf8 (high_run (clean bytes.now)) }
 {
@@ -85,8 +87,8 @@ pub fn is_utf8_run(bytes: &[u8]) -> bool
     }
 }
 
-/// The number that the hexadecimal digits at the front write, of so many at most, and what
-/// follows them.
+/// Returns the number that the hexadecimal digits at the start write, at most `width` of them, and
+/// what follows them.
 pub fn number_at(bytes: &[u8], width: usize) -> (u32, &[u8])
     requires { width ≤ 8 }
     ensures value { result.0 ≡ digits_value 16 (number_digits width (clean bytes.now)) }

@@ -1,13 +1,13 @@
-// The bytes of a string from 32 up: what stands below is passed over wherever it stands.
+// The bytes of a string from 32 up. Bytes below 32 are ignored anywhere.
 ghost use Rattle.std.specs.Prelude.{◌≡◌, ◌∷◌, [], false, MatchOption, IfSome};
 ghost use Rattle.std.specs.List.{prefix_len};
 ghost use Rattle.step_literals.specs.Bytes.{is_hex};
 ghost use Rattle.step_literals.specs.Strings.{clean, begins_with};
-ghost use Rattle.step_literals.specs.Directives.{Skips, Strips};
+ghost use Rattle.step_literals.specs.steps.Directives.{Skips, Strips};
 
 use crate::bytes::is_hex;
 
-/// The first byte from 32 up, and what follows it.
+/// Returns the first byte from 32 up, if any, and what follows it.
 pub fn take_clean(bytes: &[u8]) -> Option<(u8, &[u8])>
     ensures first { MatchOption result (clean bytes.now ≡ [])
         (λ taken. clean bytes.now ≡ taken.0 ∷ clean taken.1.now) }
@@ -23,7 +23,7 @@ pub fn take_clean(bytes: &[u8]) -> Option<(u8, &[u8])>
     None
 }
 
-/// What follows this text at the front.
+/// Returns what follows `text`, if the bytes begin with it.
 pub fn strip<'a>(bytes: &'a [u8], text: &[u8]) -> Option<&'a [u8]>
     ensures { MatchOption result (begins_with text.now (clean bytes.now) ≡ false)
         (λ rest. Strips text.now bytes.now rest.now) }
@@ -39,7 +39,8 @@ pub fn strip<'a>(bytes: &'a [u8], text: &[u8]) -> Option<&'a [u8]>
     Some(rest)
 }
 
-/// What follows so many bytes from 32 up, nothing where there are fewer.
+/// Returns what follows the first `count` bytes from 32 up. If there are fewer, the result is
+/// empty.
 pub fn skip(bytes: &[u8], count: usize) -> &[u8]
     ensures { Skips count bytes.now result.now }
 {
@@ -53,7 +54,7 @@ pub fn skip(bytes: &[u8], count: usize) -> &[u8]
     rest
 }
 
-/// How many hexadecimal digits stand at the front.
+/// Returns the number of hexadecimal digits at the start.
 pub fn hex_count(bytes: &[u8]) -> usize
     ensures { result ≡ prefix_len is_hex (clean bytes.now) }
 {

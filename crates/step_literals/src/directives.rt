@@ -10,15 +10,15 @@ ghost use Rattle.step_literals.specs.Strings.{
   IsReadable,
   IsBrokenAt,
 };
-ghost use Rattle.step_literals.specs.Directives.{StripsPage, Completes};
+ghost use Rattle.step_literals.specs.steps.Directives.{StripsPage, Completes};
 
 use crate::clean::{hex_count, skip, strip, take_clean};
 use memchr::memchr;
 
 const BACKSLASH: u8 = b'\\';
 
-/// Where the first directive begins in the content of a string that is begun and not completed
-/// (ISO 10303-21, 6.4.3), if there is one.
+/// Returns the index of the first directive in the content of a string that is begun but not
+/// completed (ISO 10303-21, 6.4.3), if any.
 pub fn broken_directive(content: &[u8]) -> Option<usize>
     ensures { MatchOption result (IsReadable content.now) (λ index. IsBrokenAt content.now index) }
 {
@@ -33,7 +33,8 @@ pub fn broken_directive(content: &[u8]) -> Option<usize>
     None
 }
 
-/// What follows the piece that begins with a backslash at the front.
+/// Returns what follows the piece at the start, which begins with a backslash. `None` means that a
+/// directive isn't completed.
 fn after_directive(bytes: &[u8]) -> Option<&[u8]>
     requires { take 1 bytes.now ≡ 92 ∷ [] }
     ensures { MatchOption result (piece_at (clean bytes.now) ≡ None)
@@ -60,7 +61,7 @@ fn after_directive(bytes: &[u8]) -> Option<&[u8]>
     Some(skip(bytes, 1))
 }
 
-/// What follows the byte behind `\S\`.
+/// Returns what follows the byte after `\S\`, if the directive is completed.
 pub fn after_shift(bytes: &[u8]) -> Option<&[u8]>
     ensures { MatchOption result (shift_at (clean bytes.now) ≡ None)
         (λ after. Completes (shift_at (clean bytes.now)) 3 bytes.now after.now) }
@@ -73,7 +74,8 @@ pub fn after_shift(bytes: &[u8]) -> Option<&[u8]>
     }
 }
 
-/// The page that `\PA\` to `\PI\` names, 1 for A, and what follows.
+/// Returns the page that `\PA\` to `\PI\` names, 1 for A, and what follows, if the bytes begin with
+/// such a directive.
 pub fn page_at(bytes: &[u8]) -> Option<(u8, &[u8])>
     ensures { MatchOption result (names_page (clean bytes.now) ≡ false)
         (λ found. StripsPage bytes.now found.0 found.1.now) }
@@ -87,7 +89,7 @@ pub fn page_at(bytes: &[u8]) -> Option<(u8, &[u8])>
     Some((letter - b'@', after))
 }
 
-/// What follows the two digits behind `\X\`.
+/// Returns what follows the two digits after `\X\`, if the directive is completed.
 pub fn after_code(bytes: &[u8]) -> Option<&[u8]>
     ensures { MatchOption result (code_at (clean bytes.now) ≡ None)
         (λ after. Completes (code_at (clean bytes.now)) 3 bytes.now after.now) }
@@ -98,7 +100,8 @@ pub fn after_code(bytes: &[u8]) -> Option<&[u8]>
     Some(skip(bytes, 2))
 }
 
-/// What follows the digits behind `\X2\` or `\X4\`, in groups of this width, and `\X0\`.
+/// Returns what follows the digits after `\X2\` or `\X4\`, in groups of `width`, and the closing
+/// `\X0\`, if the directive is completed.
 pub fn after_groups(bytes: &[u8], width: usize) -> Option<&[u8]>
     requires { 0 < width }
     ensures { MatchOption result (groups_at width (clean bytes.now) ≡ None)

@@ -1,4 +1,4 @@
-//! Laws of the definitions alone.
+//! Laws of the definitions.
 
 ghost use Rattle.std.specs.Prelude.{
   ◌≡◌,
@@ -47,7 +47,7 @@ ghost use Rattle.step_literals.specs.declared.literal.Decimal.{Decimal};
 ghost use Rattle.step_literals.specs.Items.{StringsSayTheirPieces};
 ghost use Rattle.step_literals.specs.ItemKeys.{TextsAreTheirItems};
 
-/// The digits that the limit of an exponent speaks of are those behind the `E` and its sign.
+/// The digits that the limit of an exponent counts are those after the `E` and its sign.
 pub fn exponent_digits_are_behind_the_e()
     ensures written { (front sign ds : List ℕ) (e : ℕ) → Each (λ b. not (is_e b)) front
         → is_e e ≡ true → IsSign sign → IsDigits ds
@@ -55,32 +55,32 @@ pub fn exponent_digits_are_behind_the_e()
     ensures none { (front : List ℕ) → Each (λ b. not (is_e b)) front → exponent_digits front ≡ [] }
 {}
 
-/// What the table of a string's pieces finds at the front is spelled there and has its length, and
-/// where it finds none one of the directives that have to be completed is begun.
+/// A piece that the table of a string's pieces finds at the start is spelled there, and has its
+/// length. If the table finds none, one of the directives that have to be completed is begun there.
 pub fn pieces_are_spelled()
     ensures found { (bs : List ℕ) (p : Piece) → piece_at bs ≡ Some p → BeginsPiece bs p }
     ensures none { (b : ℕ) (bs : List ℕ) → piece_at (b ∷ bs) ≡ None → BeginsDirective (b ∷ bs) }
 {}
 
-/// A text says a word exactly where both are the same in upper case.
+/// A text is a word, whatever the case of its letters, exactly if both are equal in upper case.
 pub fn words_are_said_in_upper_case()
     ensures { (word text : List ℕ) → Says word text ↔ (upper text ≡ upper word) }
 {}
 
-/// `==` of words says exactly that they are the same in upper case.
+/// Two words are equal by `==` exactly if they are equal in upper case.
 pub fn equal_words_are_the_same_in_upper_case()
     ensures { (v w : Word)
         → IsTrue (on word_value (pointwise nat_eq) v w) ↔ (word_value v ≡ word_value w) }
 {}
 
-/// `==` of binaries says exactly that they have the same bits.
+/// Two binaries are equal by `==` exactly if they have the same bits.
 pub fn equal_binaries_have_the_same_bits()
     ensures { (a b : Bits)
         → IsTrue (on bits_value (pointwise beq) a b) ↔ (bits_value a ≡ bits_value b) }
 {}
 
-/// The bits of a binary are the four of each hexadecimal digit, without as many of the first as the
-/// digit behind the quote says.
+/// The bits of a binary are the four bits of each hexadecimal digit. The digit after the quote is
+/// the number of first bits that are left out.
 pub fn bits_are_those_of_the_digits()
     ensures bits { (unused : ℕ) (digits : List ℕ) → 48 ≤ unused → unused ≤ 51
         → bits_of (34 ∷ unused ∷ digits ++ 34 ∷ [])
@@ -89,9 +89,9 @@ pub fn bits_are_those_of_the_digits()
         → length (bits_of (34 ∷ unused ∷ digits ++ 34 ∷ [])) ≡ 4 * length digits - (unused - 48) }
 {}
 
-/// A number is worth what its pieces in the table of tokens say: m is the whole number that the
-/// digits before the exponent write, with the sign, e the written exponent less the number of
-/// digits behind the point.
+/// The value of a number is determined by its pieces in the table of tokens. Its mantissa is the
+/// whole number that the digits before the exponent write, with the sign. Its exponent is the
+/// written exponent less the number of digits after the point.
 pub fn numbers_are_worth_their_pieces()
     ensures integers { (sign ds : List ℕ) → IsSign sign → IsDigits ds
         → (mantissa (sign ++ ds) ≡ signed_value sign ds) × (exponent (sign ++ ds) ≡ pos 0) }
@@ -107,22 +107,22 @@ pub fn numbers_are_worth_their_pieces()
         ≡ signed_value minus ds -ℤ pos (length part)) }
 {}
 
-/// `==` of numbers says exactly that they are worth the same.
+/// Two numbers are equal by `==` exactly if they have the same value.
 pub fn equal_numbers_are_worth_the_same()
     ensures { (d e : Decimal) → IsTrue (on units_of int_eq d e) ↔ (units_of d ≡ units_of e) }
 {}
 
-/// Two numbers compare as their whole numbers do, both brought to the lesser exponent.
+/// Two numbers compare like their mantissas once both are brought to the lesser exponent.
 pub fn numbers_compare_at_the_lesser_exponent()
     ensures { ComparedAtLesserExponent }
 {}
 
-/// What a readable string says is what its pieces say one after another.
+/// The characters of a readable string are those of its pieces, one after another.
 pub fn strings_say_what_their_pieces_say()
     ensures { StringsSayTheirPieces }
 {}
 
-/// Strings are equal exactly where their characters are.
+/// Strings are equal exactly if their characters are.
 pub fn equal_strings_have_equal_characters()
     ensures { TextsAreTheirItems }
 {}

@@ -1,7 +1,7 @@
 //! Literals of the exchange structure (ISO 10303-21): how numbers, strings, binaries and words are
 //! spelt, and their values.
 //!
-//! Nothing here takes memory: literals are slices of the text that is read.
+//! This crate allocates no memory: literals are slices of the text that is read.
 #![tactic(auto)]
 
 pub mod binaries;

@@ -31,7 +31,7 @@ pub struct Word<'a> {
     pub ghost spelled: { ∥ IsKeyword text.now ∥₁ },
 }
 
-/// A number (ISO 10303-21, 6.4.1 and 6.4.2): an integer or a real of at most 400 bytes, whose
+/// A number (ISO 10303-21, 6.4.1 and 6.4.2): an integer or a real of at most 400 bytes. Its
 /// exponent, if one is written, is from -999,999 to 999,999.
 #[derive(Clone, Copy)]
 pub struct Decimal<'a> {
@@ -54,11 +54,13 @@ pub struct Bits<'a> {
 }
 
 impl<'a> Word<'a> {
-    ghost use Rattle.step_literals.specs.Faults.{IsNoWord};
+    ghost use Rattle.step_literals.specs.steps.Faults.{IsNoWord};
 
-    /// The word that these bytes spell, all of them.
+    /// Returns the word that these bytes spell as a whole.
     ///
-    /// Where they spell none the fault is E1 at place 0.
+    /// # Errors
+    ///
+    /// - E1 at byte 0 if the bytes aren't a word
     pub fn read(bytes: &'a [u8]) -> Result<Word<'a>, TextFault>
         ensures { MatchResult result
             (λ w. (w.text.now ≡ bytes.now) × IsKeyword bytes.now)
@@ -73,7 +75,7 @@ impl<'a> Word<'a> {
         Ok(Word::from_keyword(bytes))
     }
 
-    /// The word of these bytes, which spell one.
+    /// Returns the word that these bytes spell, which must be a keyword.
     pub fn from_keyword(text: &'a [u8]) -> Word<'a>
         requires { IsKeyword text.now }
         ensures { result.text.now ≡ text.now }
@@ -81,7 +83,7 @@ impl<'a> Word<'a> {
         Word { text }
     }
 
-    /// The bytes that spell it, in the case in which they stand.
+    /// Returns the bytes that spell the word, in the case in which they were written.
     pub fn spelling(&self) -> &'a [u8]
         ensures { result ≡ self.now.text }
     {
@@ -90,11 +92,14 @@ impl<'a> Word<'a> {
 }
 
 impl<'a> Decimal<'a> {
-    ghost use Rattle.step_literals.specs.Faults.{IsNoDecimal};
+    ghost use Rattle.step_literals.specs.steps.Faults.{IsNoDecimal};
 
-    /// The number that these bytes spell, all of them.
+    /// Returns the number that these bytes spell as a whole.
     ///
-    /// Where they spell none the fault is E1, where it is beyond the limits E4, both at place 0.
+    /// # Errors
+    ///
+    /// - E1 at byte 0 if the bytes aren't a number
+    /// - E4 at byte 0 if the number is beyond the limits
     pub fn read(bytes: &'a [u8]) -> Result<Decimal<'a>, TextFault>
         ensures { MatchResult result
             (λ d. (d.text.now ≡ bytes.now) × IsDecimal bytes.now)
@@ -115,7 +120,7 @@ impl<'a> Decimal<'a> {
         Ok(Decimal::from_number(bytes))
     }
 
-    /// The number of these bytes, which spell one within the limits.
+    /// Returns the number that these bytes spell, which must be a number within the limits.
     pub fn from_number(text: &'a [u8]) -> Decimal<'a>
         requires { IsDecimal text.now }
         ensures { result.text.now ≡ text.now }
@@ -123,7 +128,7 @@ impl<'a> Decimal<'a> {
         Decimal { text }
     }
 
-    /// The bytes that spell it.
+    /// Returns the bytes that spell the number.
     pub fn spelling(&self) -> &'a [u8]
         ensures { result ≡ self.now.text }
     {
@@ -133,13 +138,15 @@ impl<'a> Decimal<'a> {
 
 impl<'a> Text<'a> {
     ghost use Rattle.std.specs.Prelude.{IfErr};
-    ghost use Rattle.step_literals.specs.Faults.{IsNoText};
+    ghost use Rattle.step_literals.specs.steps.Faults.{IsNoText};
 
-    /// The string that these bytes spell, all of them.
+    /// Returns the string that these bytes spell as a whole.
     ///
-    /// Where a directive of it is begun and not completed the fault is E3, at the directive's
-    /// backslash. Where the bytes begin with an apostrophe and no string ends in them it is E2,
-    /// where they spell no string otherwise E1, both at place 0.
+    /// # Errors
+    ///
+    /// - E3 at the backslash of a directive that is begun but not completed
+    /// - E2 at byte 0 if the bytes begin with an apostrophe, but no string ends in them
+    /// - E1 at byte 0 if the bytes aren't a string for another reason
     pub fn read(bytes: &'a [u8]) -> Result<Text<'a>, TextFault>
         ensures cases { MatchResult result
             (λ text. (text.text.now ≡ bytes.now) × IsText bytes.now)
@@ -173,7 +180,8 @@ impl<'a> Text<'a> {
         Ok(Text::from_string(bytes))
     }
 
-    /// The string of these bytes, which spell one whose directives are all completed.
+    /// Returns the string that these bytes spell, which must be a string whose directives are all
+    /// completed.
     pub fn from_string(text: &'a [u8]) -> Text<'a>
         requires { IsText text.now }
         ensures { result.text.now ≡ text.now }
@@ -181,7 +189,7 @@ impl<'a> Text<'a> {
         Text { text }
     }
 
-    /// The bytes that spell it, its apostrophes included.
+    /// Returns the bytes that spell the string, including its apostrophes.
     pub fn spelling(&self) -> &'a [u8]
         ensures { result ≡ self.now.text }
     {
@@ -190,11 +198,13 @@ impl<'a> Text<'a> {
 }
 
 impl<'a> Bits<'a> {
-    ghost use Rattle.step_literals.specs.Faults.{IsNoBits};
+    ghost use Rattle.step_literals.specs.steps.Faults.{IsNoBits};
 
-    /// The binary that these bytes spell, all of them.
+    /// Returns the binary that these bytes spell as a whole.
     ///
-    /// Where they spell none the fault is E1 at place 0.
+    /// # Errors
+    ///
+    /// - E1 at byte 0 if the bytes aren't a binary
     pub fn read(bytes: &'a [u8]) -> Result<Bits<'a>, TextFault>
         ensures { MatchResult result
             (λ bits. (bits.text.now ≡ bytes.now) × Spells binary bytes.now)
@@ -213,7 +223,7 @@ impl<'a> Bits<'a> {
         }
     }
 
-    /// The binary of these bytes, which spell one.
+    /// Returns the binary that these bytes spell, which must be a binary.
     pub fn from_binary(text: &'a [u8]) -> Bits<'a>
         requires { Spells binary text.now }
         ensures { result.text.now ≡ text.now }
@@ -221,7 +231,7 @@ impl<'a> Bits<'a> {
         Bits { text }
     }
 
-    /// The bytes that spell it, its quotes included.
+    /// Returns the bytes that spell the binary, including its quotes.
     pub fn spelling(&self) -> &'a [u8]
         ensures { result ≡ self.now.text }
     {

@@ -40,7 +40,7 @@ use crate::bytes::{digits_len, is_digit};
 
 const LONGEST: usize = 400;
 
-// A number of so few bytes has six digits at most behind its `E`.
+// A number of at most this many bytes has at most six digits after its `E`.
 const SHORT: usize = 7;
 
 const LARGEST_EXPONENT: u64 = 999_999;
@@ -61,7 +61,7 @@ pub fn sign_len(bytes: &[u8]) -> usize
     }
 }
 
-/// How long the exponent is that the bytes begin with, 0 for none.
+/// Returns the length of the exponent at the start of `bytes`, or 0 if there is none.
 fn exponent_len(bytes: &[u8]) -> usize
     ensures within { result ≤ length bytes.now }
     ensures longest { IsLongestExponent (take result bytes.now) (drop result bytes.now) }
@@ -83,7 +83,7 @@ pub fn starts_number(byte: u8) -> bool
     is_digit(byte) || byte == b'+' || byte == b'-'
 }
 
-/// How long the number is that the bytes begin with, and whether it is real.
+/// Returns the length of the number at the start of `bytes`, and whether it is a real.
 pub fn number_len(bytes: &[u8]) -> Option<(usize, bool)>
     requires { StartsNumber bytes.now }
     ensures { MatchOption result (NoneAt bytes.now)
@@ -107,7 +107,7 @@ pub fn number_len(bytes: &[u8]) -> Option<(usize, bool)>
     Some((whole + 1 + part + exponent, true))
 }
 
-/// The number that digits write, if it is below 2^64.
+/// Returns the number that the digits write, or `None` if it isn't below 2^64.
 pub fn number_of(digits: &[u8]) -> Option<u64>
     requires { Each is_digit digits.now }
     ensures { SomeIff result (digits_value 10 digits.now < 2 ^ 64) (digits_value 10 digits.now) }
@@ -121,7 +121,7 @@ pub fn number_of(digits: &[u8]) -> Option<u64>
     Some(value)
 }
 
-/// How many bytes come before the first `E`.
+/// Returns the number of bytes before the first `E`.
 fn mantissa_len(number: &[u8]) -> usize
     ensures within { result ≤ length number.now }
     ensures len { result ≡ prefix_len (λ b. not (is_e b)) number.now }
@@ -129,7 +129,7 @@ fn mantissa_len(number: &[u8]) -> usize
     number.iter().take_while(|b| !is_e(**b)).count()
 }
 
-/// The bytes behind the `E`, none where there is none.
+/// Returns the bytes after the `E`, or none if there is no `E`.
 pub fn exponent_text(number: &[u8]) -> &[u8]
     ensures { result.now ≡ exponent_text number.now }
 {

@@ -7,7 +7,7 @@ use memchr::memchr;
 
 const QUOTE: u8 = b'\'';
 
-/// What stands between the apostrophes of a string.
+/// Returns the content between the apostrophes of a string.
 pub fn content_of(text: &[u8]) -> &[u8]
     requires { 2 ≤ length text.now }
     ensures { result.now ≡ content_of text.now }
@@ -15,8 +15,9 @@ pub fn content_of(text: &[u8]) -> &[u8]
     &text[1..text.len() - 1]
 }
 
-/// How long the string is that begins with an apostrophe at the front of the bytes, if it ends
-/// (ISO 10303-21, 6.4.3): at the first later apostrophe that no other follows.
+/// Returns the length of the string that begins with the apostrophe at the start of `bytes`, or
+/// `None` if it doesn't end (ISO 10303-21, 6.4.3). It ends at the first later apostrophe that isn't
+/// doubled.
 pub fn string_len(bytes: &[u8]) -> Option<usize>
     requires { take 1 bytes.now ≡ 39 ∷ [] }
     ensures { MatchOption result (NoneAt bytes.now) (λ n. IsNextLength string bytes.now n) }

@@ -1,15 +1,15 @@
 -- What is built, as cells are pushed and lists closed.
 use Rattle.std.proofs.Common.{◌≡◌, ◌≤◌, ◌+◌, ℕ, List, [], ◌∷◌, ◌++◌, length, take, drop, sym, ◌∙◌, ap, subst, arith, length-append, length-drop}
 use Rattle.std.proofs.lemmas.List.{map-append, drop-map, take-map, take-append-drop, length-map}
-use Rattle.parsing.specs.Cells.{Cells}
-use Rattle.parsing.specs.Closing.{Closes}
+use Rattle.parsing.specs.steps.Cells.{Cells}
+use Rattle.parsing.specs.steps.Closing.{Closes}
 use Rattle.parsing.specs.Nodes.{run, said_at, said_by, AreBefore, GoesOn}
 use Rattle.parsing.specs.declared.column.Run.{Run}
 use Rattle.parsing.proofs.Grown.{goes_on, said_same, all_later}
 use Rattle.step_structures.specs.Trees.{Tree}
 use Rattle.step_records.specs.declared.cell.Cell.{Cell}
 use Rattle.step_records.specs.Cells.{parameters, IsInText, AreInText}
-use Rattle.step_records.specs.Building.{Building, built, Builds}
+use Rattle.step_records.specs.steps.Building.{Building, built, Builds}
 use Rattle.step_records.proofs.Asking.{asks_inside}
 
 module _ (text : List ℕ) where
@@ -132,7 +132,7 @@ module _ (text : List ℕ) where
         let more = said_push column pending c ∙ ap (λ y. said_by (parameters text) column pending ++ y ∷ []) says in
         λ i. record { text = text; kept = said_by (parameters text) column kept; pending = more i }
 
-  -- .. once a list is closed
+  -- what is built once a list is closed
   module _ (old : Cells Cell) (kept : List Cell) (mark : ℕ) (r : Run) (new : Cells Cell) (h : IsClosed old kept mark r new)
       (c : Cell) (x : Tree) (says : (parameters text).says (said_at (parameters text) new.column) c ≡ x) where
     pub closed_pending : built text new.column kept (new.pending ++ c ∷ []) ≡ record {

@@ -1,16 +1,16 @@
 -- The instances of a section that are read and built.
 use Rattle.std.proofs.Common.{◌≡◌, ℕ, ◌<◌, true, List, [], ◌∷◌, ◌++◌, length, map, sym, ap, ◌∙◌, append_assoc, append-nil, codes}
 use Rattle.std.proofs.lemmas.List.{map-append}
-use Rattle.step_lexis.specs.declared.token.Mark.TheVariants.{Semicolon}
-use Rattle.step_lexis.specs.declared.token.Token.{Token}
-use Rattle.step_lexis.specs.Reading.{Takes, left}
+use Rattle.step_lexer.specs.declared.token.Mark.TheVariants.{Semicolon}
+use Rattle.step_lexer.specs.declared.token.Token.{Token}
+use Rattle.step_lexer.specs.Reading.{Takes, left}
 use Rattle.step_structures.specs.Words.{mark, located}
-use Rattle.step_structures.specs.Trees.{Tree, Row, this}
-use Rattle.step_structures.specs.Predict.{Just, is_word}
-use Rattle.step_records.specs.Readers.{Progress, reading}
-use Rattle.step_records.specs.Steps.{Passes}
-use Rattle.step_records.specs.Records.{TakesRow}
-use Rattle.step_records.specs.Instances.{tree_of_row, IsNextName, TakesRows}
+use Rattle.step_structures.specs.Trees.{Tree, ExchangeRow, this}
+use Rattle.step_structures.specs.steps.Predict.{Just, is_word}
+use Rattle.step_records.specs.steps.Readers.{Progress, reading}
+use Rattle.step_records.specs.steps.Steps.{Passes}
+use Rattle.step_records.specs.steps.Records.{TakesRow}
+use Rattle.step_records.specs.steps.Instances.{tree_of_row, IsNextName, TakesRows}
 use Rattle.step_records.proofs.RowSteps.{RowsSoFar, rows_start, rows_next, rows_end, rows_smaller}
 
 -- the instances so far, and the trees that are kept of them
@@ -32,7 +32,7 @@ unfolding rows_next
 instances_next before old names here a b t n s h e is v =
     let k = old.built.kept in
     let ts = map tree_of_row s.so.rows in
-    let r : Row = record { name = n; form = v.form } in
+    let r : ExchangeRow = record { name = n; form = v.form } in
     let from : a.built ≡ record old.built { kept = k ++ ts } = e ∙ s.keeps in
     let all : (k ++ ts) ++ tree_of_row r ∷ [] ≡ k ++ map tree_of_row (s.so.rows ++ r ∷ []) =
     append_assoc k ts (tree_of_row r ∷ []) ∙ ap (λ l. k ++ l) (sym (map-append tree_of_row s.so.rows (r ∷ []))) in

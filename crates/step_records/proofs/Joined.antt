@@ -12,9 +12,9 @@ use Rattle.step_records.specs.declared.cell.Kind.{Kind}
 use Rattle.step_records.specs.declared.cell.Kind.TheVariants as kinds
 use Rattle.step_records.specs.declared.cell.Leaf.TheVariants as leaves
 use Rattle.step_records.specs.Cells.{all_of, part, parameters, reach_as, says_as, is_literal, IsInText, AreInText}
-use Rattle.step_records.specs.Building.{Builds, kept_by, tree_of}
+use Rattle.step_records.specs.steps.Building.{Builds, kept_by, tree_of}
 use Rattle.step_records.specs.Params.{is_literal_tree, are_literals}
-use Rattle.step_records.specs.Places.{IsAt, Stands, AreStanding}
+use Rattle.step_records.specs.steps.Places.{IsAt, Stands, AreStanding}
 use Rattle.step_records.proofs.Runs.{drop_at_place, first_of, text_one, run_said, part_builds, column_builds}
 
 both_true : (a b : Bool) → a ≡ true → b ≡ true → (a && b) ≡ true
@@ -148,7 +148,7 @@ module _ (text : List ℕ) where
         subst (λ cs. AreStanding text (kept_by text column (take 1 cs)) from end) (sym e)
         (one_stands (tree_of text column d) from end h)
 
-    -- .. and one more of those behind the first
+    -- one more cell after the first ones
     pub next_taken : (cells further : List Cell) (d : Cell) (i : ℕ) (c : Cell) (from end start past : ℕ)
         → cells ≡ d ∷ further → slice_get further i ≡ Some c
         → AreStanding text (kept_by text column (take (i + 1) cells)) from end → slice_get text end ≡ Some 44
@@ -173,7 +173,7 @@ module _ (text : List ℕ) where
         two_is : (n : ℕ) → suc (suc n) ≡ n + 1 + 1
         two_is n = omega arith
 
-    -- .. and all of them
+    -- all of the cells
     pub all_taken : (cells further : List Cell) (d : Cell) (i from end : ℕ) → cells ≡ d ∷ further
         → length further ≤ i → AreStanding text (kept_by text column (take (i + 1) cells)) from end
         → AreStanding text (kept_by text column cells) from end

@@ -2,17 +2,17 @@
 use Rattle.std.proofs.Common.{◌≡◌, ◌<◌, ◌≤◌, ◌+◌, ◌-◌, ◌*◌, ◌^◌, ℕ, suc, List, [], ◌∷◌, ◌++◌, length, take, drop, Option, Some, refl, sym, ◌∙◌, ap, subst, arith, length-append, length-drop, inl, inr}
 use Rattle.std.specs.Prelude.{IfSome}
 use Rattle.std.proofs.lemmas.List.{drop-take, drop-drop, take_at, take-take}
-use Rattle.step_lexis.specs.declared.token.Mark.TheVariants.{Open, Close, Comma, Semicolon, Equals, Dollar, Asterisk}
-use Rattle.step_lexis.specs.declared.token.Sort.{Sort}
-use Rattle.step_lexis.specs.declared.token.Sort.TheVariants as sorts
-use Rattle.step_lexis.specs.declared.token.Token.{Token}
-use Rattle.step_lexis.specs.Front.{kind_of, HasValue}
+use Rattle.step_lexer.specs.declared.token.Mark.TheVariants.{Open, Close, Comma, Semicolon, Equals, Dollar, Asterisk}
+use Rattle.step_lexer.specs.declared.token.Sort.{Sort}
+use Rattle.step_lexer.specs.declared.token.Sort.TheVariants as sorts
+use Rattle.step_lexer.specs.declared.token.Token.{Token}
+use Rattle.step_lexer.specs.Front.{kind_of, HasValue}
 use Rattle.step_literals.specs.Tokens.{IsNext}
 use Rattle.step_structures.specs.Words.{name, number, element, string, binary, keyword, word_of}
 use Rattle.step_structures.specs.Trees.{leaf}
 use Rattle.step_records.specs.declared.cell.Leaf.{Leaf}
 use Rattle.step_records.specs.Cells.{leaf_as, IsSpelt, part}
-use Rattle.step_records.specs.Tokens.{StandsIn, leaf_of, leaf_tree, dots_of}
+use Rattle.step_records.specs.steps.Tokens.{StandsIn, leaf_of, leaf_tree, dots_of}
 
 -- so many bytes around these are left out
 record Wraps (dots : ℕ) (w s : List ℕ) : Type 0 where
@@ -98,7 +98,7 @@ spelling (sorts.Mark Equals) s after n v = tt
 spelling (sorts.Mark Dollar) s after n v = record { w = s; spelt = tt; says = refl; wraps = plain s }
 spelling (sorts.Mark Asterisk) s after n v = record { w = s; spelt = tt; says = refl; wraps = plain s }
 
--- .. at its place in the text
+-- what a leaf of this kind says of a token at its byte offset
 pub record Spans (text : List ℕ) (t : Token) (k : Leaf) : Type 0 where
   pub least : 2 * dots_of k ≤ length t.text.now
   pub within : (t.place + dots_of k) + (length t.text.now - 2 * dots_of k) ≤ length text

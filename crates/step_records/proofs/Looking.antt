@@ -1,20 +1,20 @@
 -- What a token, a fault or the end of the text means for what was to come.
 use Rattle.std.proofs.Common.{◌≡◌, ℕ, true, false, List, [], ◌∷◌, Ok, Err, refl, ap, ◌∙◌}
 use Rattle.std.proofs.lemmas.Bool.{false≢true}
-use Rattle.step_lexis.specs.declared.token.Mark.{Mark}
-use Rattle.step_lexis.specs.declared.token.Mark.TheVariants.{Open, Close, Comma, Semicolon, Equals, Dollar, Asterisk}
-use Rattle.step_lexis.specs.declared.token.Sort.TheVariants as sorts
+use Rattle.step_lexer.specs.declared.token.Mark.{Mark}
+use Rattle.step_lexer.specs.declared.token.Mark.TheVariants.{Open, Close, Comma, Semicolon, Equals, Dollar, Asterisk}
+use Rattle.step_lexer.specs.declared.token.Sort.TheVariants as sorts
 use Rattle.step_literals.specs.declared.fault.TextFault as lexis
-use Rattle.step_lexis.specs.Reading.{Reading, Takes, IsAtEnd, IsFaulty}
-use Rattle.step_lexis.specs.declared.token.Token.{Token}
+use Rattle.step_lexer.specs.Reading.{Reading, Takes, IsAtEnd, IsFaulty}
+use Rattle.step_lexer.specs.declared.token.Token.{Token}
 use Rattle.step_structures.specs.declared.fault.FaultKind.TheVariants as kinds
 use Rattle.step_structures.specs.declared.fault.TextFault.{TextFault}
 use Rattle.step_structures.specs.declared.fault.TextFault.TheVariants as faults
 use Rattle.step_structures.specs.Words.{mark, keyword, Lookahead, token, flawed, end_of_text, located, located_fault, located_end, word_of, shows_fault, shows_end}
 use Rattle.step_structures.specs.Trees.{this, says, Meets}
 use Rattle.step_structures.specs.Fits.{the_rules}
-use Rattle.step_structures.specs.Predict.{Symbol, Just, Say, EndOfText, refused, is_mark, is_word, table}
-use Rattle.step_records.specs.Steps.{StopsIn, Passes}
+use Rattle.step_structures.specs.steps.Predict.{Symbol, Just, Say, EndOfText, refused, is_mark, is_word, table}
+use Rattle.step_records.specs.steps.Steps.{StopsIn, Passes}
 use Rattle.step_structures.proofs.Meeting.{meets_is}
 use Rattle.step_structures.proofs.Passing.{next_mark}
 use Rattle.step_structures.proofs.Sound.{same_mark}

@@ -5,7 +5,7 @@ use Rattle.std.specs.List.{list_any}
 use Rattle.indexmap.specs.IndexSet.{insert_key}
 use Rattle.std.proofs.lemmas.Bool.Decides.{nat_tests}
 use Rattle.step_structures.specs.Fits.{has_name}
-use Rattle.step_records.specs.Names.{AtMost, AreFirst, IsKept}
+use Rattle.step_records.specs.steps.Names.{AtMost, AreFirst, IsKept}
 
 -- the names in the set
 pub has_key : (k : ℕ) (names : List ℕ) → has_name k names ≡ list_any (nat_eq k) names

@@ -10,7 +10,7 @@ use Rattle.step_records.specs.declared.cell.Kind.{Kind}
 use Rattle.step_records.specs.declared.cell.Kind.TheVariants as kinds
 use Rattle.step_records.specs.declared.cell.Leaf.TheVariants as leaves
 use Rattle.step_records.specs.declared.cell.Cell.{Cell}
-use Rattle.step_records.specs.Building.{Builds, tree_of}
+use Rattle.step_records.specs.steps.Building.{Builds, tree_of}
 use Rattle.step_records.specs.Cells.{is_keyword, typed_of, says_as, part, parameters, IsInText}
 use Rattle.step_records.proofs.Runs.{column_builds, one_builds, place_said}
 

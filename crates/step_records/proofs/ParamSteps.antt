@@ -3,18 +3,18 @@ use Rattle.std.proofs.Common.{◌≡◌, ℕ, ◌+◌, ◌<◌, Bool, true, fals
 use Rattle.std.proofs.lemmas.Bool.{false≢true}
 use Rattle.std.proofs.lemmas.Bool.Decides.{nat_tests}
 use Rattle.parsing.specs.Tables.{lookaheads, step_on, run}
-use Rattle.step_lexis.specs.declared.token.Mark.TheVariants.{Open, Close, Comma}
-use Rattle.step_lexis.specs.Reading.{Reading, Takes, left}
-use Rattle.step_lexis.specs.declared.token.Token.{Token}
-use Rattle.step_lexis.proofs.ReadingLemmas.{takes_less}
+use Rattle.step_lexer.specs.declared.token.Mark.TheVariants.{Open, Close, Comma}
+use Rattle.step_lexer.specs.Reading.{Reading, Takes, left}
+use Rattle.step_lexer.specs.declared.token.Token.{Token}
+use Rattle.step_lexer.proofs.ReadingLemmas.{takes_less}
 use Rattle.step_structures.specs.declared.fault.TextFault.{TextFault}
 use Rattle.step_structures.specs.declared.fault.TextFault.TheVariants as faults
 use Rattle.step_structures.specs.Words.{Word, Lookahead, token, mark, keyword, LocatedToken, located, shows_token}
 use Rattle.step_structures.specs.Trees.{Tree, leaf, typed, group, Trees, none, one, this, items_of_tree, items_of_trees, items_of_more, items_of_list}
 use Rattle.step_structures.specs.Fits.{the_rules, IsLeaf, FitsTree, FitsTrees}
 use Rattle.step_records.specs.Cells.{all_of}
-use Rattle.step_structures.specs.Predict.{Symbol, Just, Value, Items, More, Next, refused, is_mark, next_value, then_more, table, params_symbols}
-use Rattle.step_records.specs.Steps.{StopsIn, Passes, inner_symbols}
+use Rattle.step_structures.specs.steps.Predict.{Symbol, Just, Value, Items, More, Next, refused, is_mark, next_value, then_more, table, params_symbols}
+use Rattle.step_records.specs.steps.Steps.{StopsIn, Passes, inner_symbols}
 use Rattle.step_structures.proofs.Meeting.{meet_as, meets_is}
 use Rattle.step_structures.proofs.Passing.{next_leaf, items_as_value}
 use Rattle.step_records.proofs.Taking.{passes_as, passes_join, passes_more, passes_then, passes_token, passes_taken, passes_first, passes_within, stops_behind}

@@ -1,27 +1,27 @@
 -- Parameters that are read and built.
 use Rattle.std.proofs.Common.{◌≡◌, ℕ, ◌+◌, ◌<◌, ◌≤◌, Bool, true, false, List, [], ◌∷◌, ◌++◌, length, take, drop, Some, Result, Ok, Err, MatchResult, refl, sym, ap, ◌∙◌, subst, append_assoc, append-nil, arith, length-take, length-drop}
 use Rattle.std.proofs.lemmas.List.{take_at, drop_at}
-use Rattle.step_lexis.specs.declared.token.Mark.TheVariants.{Open, Close, Comma, Semicolon, Equals, Dollar, Asterisk}
-use Rattle.step_lexis.specs.declared.token.Sort.{Sort}
-use Rattle.step_lexis.specs.declared.token.Sort.TheVariants as sorts
-use Rattle.step_lexis.specs.declared.token.Token.{Token}
-use Rattle.step_lexis.specs.Front.{IsFront}
-use Rattle.step_lexis.specs.Reading.{Reading, SkipsMark, Takes, left}
-use Rattle.step_lexis.proofs.ReadingLemmas.{some_bytes}
-use Rattle.step_lexis.proofs.Standing.{token_at, front_taken}
-use Rattle.step_records.specs.Building.{Building}
+use Rattle.step_lexer.specs.declared.token.Mark.TheVariants.{Open, Close, Comma, Semicolon, Equals, Dollar, Asterisk}
+use Rattle.step_lexer.specs.declared.token.Sort.{Sort}
+use Rattle.step_lexer.specs.declared.token.Sort.TheVariants as sorts
+use Rattle.step_lexer.specs.declared.token.Token.{Token}
+use Rattle.step_lexer.specs.Front.{IsFront}
+use Rattle.step_lexer.specs.Reading.{Reading, SkipsMark, Takes, left}
+use Rattle.step_lexer.proofs.ReadingLemmas.{some_bytes}
+use Rattle.step_lexer.proofs.Standing.{token_at, front_taken}
+use Rattle.step_records.specs.steps.Building.{Building}
 use Rattle.step_records.specs.Cells.{all_of, typed_of}
-use Rattle.step_records.specs.Tokens.{IsLeafAt, leaf_of, leaf_tree}
+use Rattle.step_records.specs.steps.Tokens.{IsLeafAt, leaf_of, leaf_tree}
 use Rattle.step_records.specs.declared.cell.Leaf.{Leaf}
 use Rattle.step_records.specs.declared.cell.Leaf.TheVariants.{Keyword}
 use Rattle.step_structures.specs.declared.fault.TextFault.{TextFault}
 use Rattle.step_structures.specs.Words.{keyword, mark, token, located, word_of}
 use Rattle.step_structures.specs.Trees.{Tree, leaf, typed, this, items_of_tree}
 use Rattle.step_structures.specs.Fits.{IsLeaf}
-use Rattle.step_structures.specs.Predict.{Just, is_mark}
-use Rattle.step_structures.specs.Predict as predict
-use Rattle.step_records.specs.Readers.{Progress, reading}
-use Rattle.step_records.specs.Steps.{StopsIn, StopsAnyway, TakesNext, Passes, IsParameter, PushesAll, PushesLeaf, PushesNext, PushesKeyword, TakesInner, TakesValue, TakesItem, BeginsItems, TakesItems, TakesParams, GoesOn, inner_symbols}
+use Rattle.step_structures.specs.steps.Predict.{Just, is_mark}
+use Rattle.step_structures.specs.steps.Predict as predict
+use Rattle.step_records.specs.steps.Readers.{Progress, reading}
+use Rattle.step_records.specs.steps.Steps.{StopsIn, StopsAnyway, TakesNext, Passes, IsParameter, PushesAll, PushesLeaf, PushesNext, PushesKeyword, TakesInner, TakesValue, TakesItem, BeginsItems, TakesItems, TakesParams, GoesOn, inner_symbols}
 use Rattle.step_records.proofs.Looking.{mark_met, mark_shown}
 use Rattle.step_records.proofs.Taking.{passes_here, stops_behind_taken}
 use Rattle.step_records.proofs.ParamSteps.{leaf_done, SoFar, items_none, items_err_first, items_first, items_next, items_done, all_push, inner_done, typed_done, params_done, params_err_items}
@@ -56,7 +56,7 @@ leaf_next r text at sort n k e p f is =
     } in
     subst (λ (x : List ℕ × ℕ). IsLeafAt x.0 k x.1 n (next_token r sort n)) (λ i. (e i, sym p i)) here
 
--- .. which is pushed and skipped
+-- the next token, of this sort and length, is pushed and skipped
 module _ (r s : Reading) (b c : Building) (sort : Sort) (n : ℕ) (e : r.text ≡ b.text) (f : IsFront (left r) sort n)
     (pushed : c ≡ record b { pending = b.pending ++ leaf_tree (next_token r sort n) ∷ [] })
     (skipped : s ≡ record r { place = r.place + n }) where
@@ -106,7 +106,7 @@ parameter_is (sorts.Mark Equals) s k e d = absurd (cc)
 parameter_is (sorts.Mark Dollar) s k e d = (tt, refl)
 parameter_is (sorts.Mark Asterisk) s k e d = (tt, refl)
 
--- .. and is pending
+-- a token that is a parameter by itself, and is pending, begins the items
 leaf_item : (n : ℕ) (old new : Progress) → PushesLeaf old new → BeginsItems true n old new
 leaf_item n old new h =
     let mid : Progress = record old { place = new.place } in

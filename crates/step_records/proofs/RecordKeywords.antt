@@ -45,7 +45,7 @@ pub said_first : (w : Word) (ws : List Word) (first : Bool) → first ≡ list_a
 said_first w ws first e found = found ∙ sym (said_in_two w ws
     ∙ ap (λ b. b || list_any (same_word w) (drop 8 ws)) (sym e ∙ found))
 
--- .. and then in the set
+-- a keyword is looked for among the first eight, and then in the set
 pub said_behind : (w : Word) (ws keys : List Word) (first behind : Bool) → first ≡ list_any (says w) (take 8 ws)
     → first ≡ false → keys ≡ drop 8 ws → behind ≡ list_any (same_word w) keys → behind ≡ list_any (says w) ws
 said_behind w ws keys first behind e missed kept h = h ∙ ap (list_any (same_word w)) kept

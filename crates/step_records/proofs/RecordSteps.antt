@@ -1,12 +1,12 @@
 -- Instances, token by token.
 use Rattle.std.proofs.Common.{◌≡◌, ℕ, ◌<◌, ◌||◌, true, false, List, [], ◌∷◌, ◌++◌, length, Ok, Err, refl, sym, ap, ◌∙◌, subst, append_assoc, append-nil, arith}
 use Rattle.std.proofs.lemmas.Bool.{false≢true}
-use Rattle.step_lexis.specs.declared.token.Mark.TheVariants.{Open, Close, Semicolon, Equals}
-use Rattle.step_lexis.specs.Reading.{Reading, Takes, left}
-use Rattle.step_lexis.specs.declared.token.Token.{Token}
-use Rattle.step_lexis.specs.declared.token.Sort.{Sort}
-use Rattle.step_lexis.specs.declared.token.Sort.TheVariants as sorts
-use Rattle.step_lexis.proofs.ReadingLemmas.{takes_less}
+use Rattle.step_lexer.specs.declared.token.Mark.TheVariants.{Open, Close, Semicolon, Equals}
+use Rattle.step_lexer.specs.Reading.{Reading, Takes, left}
+use Rattle.step_lexer.specs.declared.token.Token.{Token}
+use Rattle.step_lexer.specs.declared.token.Sort.{Sort}
+use Rattle.step_lexer.specs.declared.token.Sort.TheVariants as sorts
+use Rattle.step_lexer.proofs.ReadingLemmas.{takes_less}
 use Rattle.step_structures.specs.declared.fault.FaultKind.TheVariants as kinds
 use Rattle.step_structures.specs.declared.fault.TextFault.{TextFault}
 use Rattle.step_structures.specs.declared.fault.TextFault.TheVariants as faults
@@ -14,9 +14,9 @@ use Rattle.step_literals.specs.declared.literal.Word as literal
 use Rattle.step_structures.specs.Words.{Lookahead, token, mark, keyword, located, word_of}
 use Rattle.step_structures.specs.Trees.{Record, Form, internal, external, this, is_said, items_of_record, items_of_partial_records, items_of_form}
 use Rattle.step_structures.specs.Fits.{the_rules, FitsRecord, FitsPartialRecords, FitsForm, has_keyword}
-use Rattle.step_structures.specs.Predict.{Just, Body, PartialRecords, refused, is_mark, row_symbols, table, params_symbols}
-use Rattle.step_records.specs.Steps.{StopsIn, Passes}
-use Rattle.step_records.specs.Records.{FitsBehind, FitsPartials, keywords_of, any_is, texts_of}
+use Rattle.step_structures.specs.steps.Predict.{Just, Body, PartialRecords, refused, is_mark, row_symbols, table, params_symbols}
+use Rattle.step_records.specs.steps.Steps.{StopsIn, Passes}
+use Rattle.step_records.specs.steps.Records.{FitsBehind, FitsPartials, keywords_of, any_is, texts_of}
 use Rattle.step_structures.proofs.Meeting.{meets_is}
 use Rattle.step_records.proofs.Taking.{passes_as, passes_join, passes_more, passes_then, passes_token, passes_taken, passes_first, passes_within, stops_behind, stops_behind_taken, stops_taken}
 use Rattle.step_records.proofs.Looking.{stops_refused, mark_met, meets_mark}

@@ -1,24 +1,24 @@
 -- Records and instances that are read and built.
 use Rattle.std.proofs.Common.{◌≡◌, ℕ, ◌<◌, Bool, true, false, List, [], ◌∷◌, ◌++◌, length, take, drop, map, Result, Ok, Err, MatchResult, refl, sym, ap, ◌∙◌, subst, append_assoc, arith}
 use Rattle.std.proofs.lemmas.List.{length-map, map-append, take_at, drop_at}
-use Rattle.step_lexis.specs.declared.token.Mark.TheVariants.{Open, Close, Semicolon, Equals}
-use Rattle.step_lexis.specs.declared.token.Token.{Token}
-use Rattle.step_lexis.specs.Reading.{Reading, Takes, left}
+use Rattle.step_lexer.specs.declared.token.Mark.TheVariants.{Open, Close, Semicolon, Equals}
+use Rattle.step_lexer.specs.declared.token.Token.{Token}
+use Rattle.step_lexer.specs.Reading.{Reading, Takes, left}
 use Rattle.step_literals.specs.declared.literal.Word as literal
-use Rattle.step_records.specs.Building.{Building, list_of}
+use Rattle.step_records.specs.steps.Building.{Building, list_of}
 use Rattle.step_records.specs.Cells.{all_of}
 use Rattle.step_records.proofs.Parts.{trees_all}
-use Rattle.step_records.specs.Tokens.{leaf_tree}
+use Rattle.step_records.specs.steps.Tokens.{leaf_tree}
 use Rattle.step_structures.specs.declared.fault.TextFault.{TextFault}
 use Rattle.step_structures.specs.declared.fault.TextFault.TheVariants as faults
 use Rattle.step_structures.specs.Words.{keyword, mark, token, located}
 use Rattle.step_structures.specs.Trees.{Tree, leaf, Record, internal, external, this, items_of_list, items_of_record, items_of_form}
 use Rattle.step_structures.specs.Fits.{has_keyword}
-use Rattle.step_structures.specs.Predict.{Just, Body, PartialRecords, refused, is_mark, params_symbols, row_symbols}
-use Rattle.step_records.specs.Readers.{Progress, reading}
-use Rattle.step_records.specs.Steps.{StopsIn, Passes, PushesAll, PushesKeyword, PushesWord, TakesParams}
+use Rattle.step_structures.specs.steps.Predict.{Just, Body, PartialRecords, refused, is_mark, params_symbols, row_symbols}
+use Rattle.step_records.specs.steps.Readers.{Progress, reading}
+use Rattle.step_records.specs.steps.Steps.{StopsIn, Passes, PushesAll, PushesKeyword, PushesWord, TakesParams}
 use Rattle.step_records.specs.Params.{trees_in}
-use Rattle.step_records.specs.Records.{texts_of, keywords_of, tree_of_record, trees_of_form, TakesRecord, TakesPartial, TakesPartials, TakesForm, TakesRow}
+use Rattle.step_records.specs.steps.Records.{texts_of, keywords_of, tree_of_record, trees_of_form, TakesRecord, TakesPartial, TakesPartials, TakesForm, TakesRow}
 use Rattle.step_records.proofs.Looking.{mark_met}
 use Rattle.step_records.proofs.Pushing.{keyword_leaf, wrapped, wrapped_over, pushes_over}
 use Rattle.step_records.proofs.RecordSteps.{Added, PartialRecordsSoFar, partial_done, partials_next, partials_done, partials_err_token, partials_err_partial, partials_empty, partials_smaller, form_internal, form_external, form_err_params, form_err_partials, row_done}

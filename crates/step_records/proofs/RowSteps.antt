@@ -2,22 +2,22 @@
 use Rattle.std.proofs.Common.{◌≡◌, ℕ, ◌<◌, ◌≤◌, true, false, List, [], ◌∷◌, ◌++◌, length, Ok, Err, refl, sym, ap, ◌∙◌, subst, append_assoc, append-nil, arith, nat_lt, codes, inl, inr}
 use Rattle.std.proofs.lemmas.Bool.{false≢true}
 use Rattle.std.proofs.lemmas.Bool.Decides.{nat_tests}
-use Rattle.step_lexis.specs.declared.token.Mark.TheVariants.{Semicolon}
-use Rattle.step_lexis.specs.declared.token.Sort.{Sort}
-use Rattle.step_lexis.specs.declared.token.Sort.TheVariants as sorts
-use Rattle.step_lexis.specs.Reading.{Reading, Takes, left}
-use Rattle.step_lexis.specs.declared.token.Token.{Token}
-use Rattle.step_lexis.proofs.ReadingLemmas.{takes_less}
+use Rattle.step_lexer.specs.declared.token.Mark.TheVariants.{Semicolon}
+use Rattle.step_lexer.specs.declared.token.Sort.{Sort}
+use Rattle.step_lexer.specs.declared.token.Sort.TheVariants as sorts
+use Rattle.step_lexer.specs.Reading.{Reading, Takes, left}
+use Rattle.step_lexer.specs.declared.token.Token.{Token}
+use Rattle.step_lexer.proofs.ReadingLemmas.{takes_less}
 use Rattle.step_structures.specs.declared.fault.FaultKind.TheVariants as kinds
 use Rattle.step_structures.specs.declared.fault.LeftOut.TheVariants as left_out
 use Rattle.step_structures.specs.declared.fault.TextFault.{TextFault}
 use Rattle.step_structures.specs.declared.fault.TextFault.TheVariants as faults
 use Rattle.step_structures.specs.Words.{Lookahead, token, keyword, name, mark, located, word_of}
-use Rattle.step_structures.specs.Trees.{Row, Form, this, named, says, section, items_of_row, items_of_rows}
+use Rattle.step_structures.specs.Trees.{ExchangeRow, Form, this, named, says, section, items_of_row, items_of_rows}
 use Rattle.step_structures.specs.Fits.{the_rules, FitsForm, FitsRows, has_name}
-use Rattle.step_structures.specs.Predict.{Just, Rows, Sections, refused, is_word, row_symbols, table}
-use Rattle.step_records.specs.Steps.{StopsIn, Passes}
-use Rattle.step_records.specs.Instances.{StopsInRows, IsNextName, IsNoName, HasNoName, names_of}
+use Rattle.step_structures.specs.steps.Predict.{Just, Rows, Sections, refused, is_word, row_symbols, table}
+use Rattle.step_records.specs.steps.Steps.{StopsIn, Passes}
+use Rattle.step_records.specs.steps.Instances.{StopsInRows, IsNextName, IsNoName, HasNoName, names_of}
 use Rattle.step_structures.proofs.Meeting.{meets_named}
 use Rattle.step_records.proofs.Taking.{passes_here, passes_as, passes_join, passes_more, passes_token, passes_within, stops_behind, stops_token}
 use Rattle.step_records.proofs.Looking.{word_met}
@@ -82,7 +82,7 @@ name_fits names t n is h m = record { text = t.text.now; is = name_at t n is; al
 
 -- the instances of a section behind those of others so far, with the others and the end of the section behind
 pub record RowsSoFar (before : List ℕ) (old : Reading) (now : List ℕ) (here : Reading) : Type 0 where
-  pub rows : List Row
+  pub rows : List ExchangeRow
   pub are : now ≡ before ++ names_of rows
   pub fits : FitsRows the_rules (before) rows
   pub passes : (k : ℕ) → Passes (Rows k (before) ∷ []) (Rows k (now) ∷ []) [] (items_of_rows rows) old
@@ -120,7 +120,7 @@ pub rows_err_row : (e : TextFault) (before : List ℕ) (old : Reading) (now : Li
 rows_err_row e before old now here t n a so h is g k = stops_behind e row_symbols (Rows k (now ++ n ∷ []) ∷ [])
     (passes_join (so.passes k) (passes_name k (now) t n here a h is)) g
 
-pub fits_push : (before : List ℕ) (rs : List Row) (r : Row) → FitsRows the_rules before rs
+pub fits_push : (before : List ℕ) (rs : List ExchangeRow) (r : ExchangeRow) → FitsRows the_rules before rs
     → has_name r.name (before ++ names_of rs) ≡ false → length (before ++ names_of rs) < the_rules.instances
     → FitsForm the_rules r.form → FitsRows the_rules before (rs ++ r ∷ [])
 fits_push before [] r h g m f = (
@@ -138,12 +138,12 @@ fits_push before (q ∷ rs) r h g m f =
           (subst (λ l. length l < the_rules.instances) e m) f,
     )
 
-pub items_push : (rs : List Row) (r : Row) → items_of_rows (rs ++ r ∷ []) ≡ items_of_rows rs ++ items_of_row r
+pub items_push : (rs : List ExchangeRow) (r : ExchangeRow) → items_of_rows (rs ++ r ∷ []) ≡ items_of_rows rs ++ items_of_row r
 items_push [] r = append-nil (items_of_row r)
 items_push (q ∷ rs) r = ap (λ l. items_of_row q ++ l) (items_push rs r)
     ∙ sym (append_assoc (items_of_row q) (items_of_rows rs) (items_of_row r))
 
-pub names_push : (rs : List Row) (r : Row) → names_of (rs ++ r ∷ []) ≡ names_of rs ++ r.name ∷ []
+pub names_push : (rs : List ExchangeRow) (r : ExchangeRow) → names_of (rs ++ r ∷ []) ≡ names_of rs ++ r.name ∷ []
 names_push [] r = refl
 names_push (q ∷ rs) r = ap (λ l. q.name ∷ l) (names_push rs r)
 
@@ -151,7 +151,7 @@ unfoldable pub rows_next : (before : List ℕ) (old : Reading) (now : List ℕ) 
     (f : Form) (b : Reading) → RowsSoFar before old now here → Takes here t a → IsNextName (now) (located t) n
     → Lined a f b → RowsSoFar before old (now ++ n ∷ []) b
 rows_next before old now here t n a f b so h is g =
-    let r : Row = record { name = n; form = f } in
+    let r : ExchangeRow = record { name = n; form = f } in
     let all = so.are in
     record {
       rows = so.rows ++ r ∷ [];

@@ -7,7 +7,7 @@ use Rattle.parsing.proofs.Grown.{place_same, cell_same, pushed_place}
 use Rattle.step_structures.specs.Trees.{Tree}
 use Rattle.step_records.specs.declared.cell.Cell.{Cell}
 use Rattle.step_records.specs.Cells.{parameters, IsInText, AreInText}
-use Rattle.step_records.specs.Building.{Builds, kept_by, tree_of}
+use Rattle.step_records.specs.steps.Building.{Builds, kept_by, tree_of}
 use Rattle.step_records.proofs.Asking.{asks_inside}
 use Rattle.step_records.proofs.Built.{before_split, text_split}
 
@@ -142,7 +142,7 @@ module _ (text : List ℕ) where
           subst (λ k. said_at nodes column k ≡ tree_of text column c) size
           (subst (λ l. said_at nodes l (length (take i column)) ≡ tree_of text l c) cut there)
 
-      -- .. and at so many from a place on
+      -- what is said at a number of indices from one on
       pub run_said : (at len : ℕ) → at + len ≤ length column
           → run (said_at (parameters text) column) at len ≡ kept_by text column (take len (drop at column))
       run_said at zero l = refl

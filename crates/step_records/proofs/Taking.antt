@@ -4,17 +4,17 @@ use Rattle.parsing.proofs.Shown.{shows_falls}
 use Rattle.parsing.proofs.Taking as taking
 use Rattle.parsing.proofs.Taking.{Joins}
 use Rattle.parsing.proofs.Turning as turning
-use Rattle.step_lexis.specs.Reading.{Reading, Takes, left}
-use Rattle.step_lexis.specs.declared.token.Token.{Token}
-use Rattle.step_lexis.proofs.ReadingLemmas.{takes_less}
+use Rattle.step_lexer.specs.Reading.{Reading, Takes, left}
+use Rattle.step_lexer.specs.declared.token.Token.{Token}
+use Rattle.step_lexer.proofs.ReadingLemmas.{takes_less}
 use Rattle.step_structures.specs.declared.fault.FaultKind.{FaultKind}
 use Rattle.step_structures.specs.declared.fault.TextFault.{TextFault}
 use Rattle.step_structures.specs.declared.fault.TextFault.TheVariants as faults
 use Rattle.step_structures.specs.Words.{LocatedToken, located, Shows, shows_token, shows_fault, shows_end, ShowsAll}
 use Rattle.step_structures.specs.Trees.{Item, Meets, MeetAll}
 use Rattle.step_structures.specs.Texts.{Reads}
-use Rattle.step_structures.specs.Predict.{Symbol, table}
-use Rattle.step_records.specs.Steps.{fault_at, StopsIn, Passes}
+use Rattle.step_structures.specs.steps.Predict.{Symbol, table}
+use Rattle.step_records.specs.steps.Steps.{fault_at, StopsIn, Passes}
 use Rattle.step_structures.proofs.Meeting.{meet_join}
 
 joins : Joins MeetAll
@@ -50,13 +50,13 @@ pub passes_token : (y : Symbol) (zs : List Symbol) (i : Item) (t : Token) (old n
 passes_token y zs i t old new h m e = taking.passes_token table Shows MeetAll y zs i (located t) old new
     (shows_token t h refl) (m, tt) e
 
--- .. that is taken already
+-- a token that is read already
 pub passes_taken : (y : Symbol) (zs : List Symbol) (i : Item) (t : Token) (here : Reading)
     → Meets (located t).lookahead i → table y (located t).lookahead ≡ Ok zs
     → Passes (y ∷ []) zs (located t ∷ []) (i ∷ []) here here
 passes_taken y zs i t here m e = taking.passes_taken table Shows MeetAll y zs i (located t) here (m, tt) e
 
--- .. and may as well be read first
+-- a token that is read already may as well be read first
 pub passes_first : {ys zs : List Symbol} {items : List Item} {b c : Reading} (t : Token) (a : Reading) → Takes a t b
     → Passes ys zs (located t ∷ []) items b c → Passes ys zs [] items a c
 passes_first t a h g = taking.passes_first table Shows MeetAll (located t) a (shows_token t h refl) g
@@ -89,7 +89,7 @@ pub stops_token : (e : TextFault) (k : FaultKind) (y : Symbol) (t : Token) (old 
     → table y (located t).lookahead ≡ Err k → e ≡ faults.Fault k t.place → StopsIn e (y ∷ []) [] old
 stops_token e k y t old new h n q = stops_shown e k y (located t) old new (shows_token t h refl) n q
 
--- .. and is taken already
+-- a token that can't come next, and is read already
 pub stops_taken : (e : TextFault) (k : FaultKind) (y : Symbol) (t : Token) (r : Reading)
     → table y (located t).lookahead ≡ Err k → e ≡ faults.Fault k t.place → StopsIn e (y ∷ []) (located t ∷ []) r
 stops_taken e k y t r n q = let P : TextFault → Type 0 = λ x. StopsIn x (y ∷ []) (located t ∷ []) r in

@@ -13,7 +13,7 @@ abbrev mutual
   weight_of none = 1
   weight_of (one x xs) = suc (weight x + weight_of xs)
 
--- .. of parameters side by side
+-- the weight of parameters side by side
 abbrev pub weights : List Tree → ℕ
 weights xs = weight_of (all_of xs)
 

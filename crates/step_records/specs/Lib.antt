@@ -1,12 +1,4 @@
 pub mod Cells
 pub mod Laws
-pub mod ComputedCodes
-pub mod Building
-pub mod Tokens
 pub mod Params
-pub mod Places
-pub mod Readers
-pub mod Steps
-pub mod Records
-pub mod Names
-pub mod Instances
+pub mod steps

@@ -1,12 +1,12 @@
-//! Parameters that are read one after another, and put together.
+//! Trees of parameters, built from tokens that are read one after another.
 
 ghost use Rattle.std.specs.Prelude.{◌≡◌, ◌≤◌, ◌+◌, ◌++◌, [], ◌∷◌, Some, length, take, drop};
 ghost use Rattle.std.specs.Prelude.{MatchResult, IfOk};
-ghost use Rattle.step_records.specs.Building.{list_of};
+ghost use Rattle.step_records.specs.steps.Building.{list_of};
 ghost use Rattle.step_records.specs.declared.cell.Kind.TheVariants.{List};
 ghost use Rattle.step_records.specs.Cells.{typed_of};
-ghost use Rattle.step_lexis.specs.declared.token.Token.{Token};
-ghost use Rattle.step_records.specs.Tokens.{
+ghost use Rattle.step_lexer.specs.declared.token.Token.{Token};
+ghost use Rattle.step_records.specs.steps.Tokens.{
   StandsIn,
   IsLeafAt,
   IsCellOf,
@@ -21,14 +21,16 @@ use crate::param::Params;
 use parsing::column::{Column, Run};
 use std::alloc::{AllocError, Global};
 use std::marker::Model;
-use step_lexis::token::{Mark, Sort, Token};
+use step_lexer::token::{Mark, Sort, Token};
 
-/// Trees of parameters over a text, laid down in one column as they are read.
+/// Trees of parameters over a text, stored in one column as they are read.
 ///
-/// Each parameter is pending until the list that it stands in is closed, and the list is then
-/// pending in its place; a tree that is whole is kept. A cell has 32 bits for a length: where a
-/// literal has 4 GiB or more, or a list 2^32 parts or more, the answer is want of memory. Behind want
-/// of memory the trees that were pending or kept may be lost; the text stays.
+/// Each parameter is pending until the list that it is in is closed. Then the list is pending in
+/// its place. A whole tree is kept.
+///
+/// A cell has 32 bits for a length. For a literal of 4 GiB or more, or a list of 2^32 parts or
+/// more, the builder returns `AllocError`. After an `AllocError`, pending or kept trees may be
+/// lost; the text stays.
 #[derive(Drop)]
 pub struct Builder<'a> {
     text: &'a [u8],
@@ -37,7 +39,7 @@ pub struct Builder<'a> {
 }
 
 impl<'a> Model for Builder<'a> {
-    ghost use Rattle.step_records.specs.Building.{Building, coded_building, built, Builds};
+    ghost use Rattle.step_records.specs.steps.Building.{Building, coded_building, built, Builds};
 
     ghost Value = { Building };
 
@@ -49,7 +51,7 @@ impl<'a> Model for Builder<'a> {
 }
 
 impl Leaf {
-    /// What kind of leaf a token of this sort is, if it is one.
+    /// Returns the kind of leaf that a token of this sort is, if any.
     pub fn of(sort: Sort<'_>) -> Option<Leaf>
         ensures { result ≡ leaf_of sort.entry }
     {
@@ -68,7 +70,7 @@ impl Leaf {
     }
 }
 
-// A length that fits a cell.
+// Returns the length of a cell, which must fit into 32 bits.
 fn cell_len(len: usize) -> Result<u32, AllocError>
     ensures { IfOk result (λ n. n ≡ len) }
 {
@@ -79,7 +81,7 @@ fn cell_len(len: usize) -> Result<u32, AllocError>
 }
 
 impl<'a> Builder<'a> {
-    /// Nothing is read of a text yet. It takes no memory.
+    /// Returns a builder that has read nothing of `text`. It allocates no memory.
     pub fn new(alloc: Global, text: &'a [u8]) -> Self
         ensures { result ≡ record { text = text.now; kept = []; pending = [] } }
     {
@@ -90,8 +92,10 @@ impl<'a> Builder<'a> {
         }
     }
 
-    /// Asks for room for so many more cells and trees. `Err` says that memory has no such room;
-    /// nothing else changes either way, and what is read later asks for as much as it needs.
+    /// Reserves room for more cells and trees.
+    ///
+    /// `AllocError` means that there isn't that much memory. The trees are unchanged either way,
+    /// and later calls still allocate what they need.
     pub fn reserve(&mut self, cells: usize, trees: usize) -> Result<(), AllocError>
         ensures { self.new ≡ self.old }
     {
@@ -99,28 +103,29 @@ impl<'a> Builder<'a> {
         self.kept.reserve(trees)
     }
 
-    /// How many trees are pending: a list that opens now is closed with this mark.
+    /// Returns the number of pending trees. It is the mark with which a list that opens now is
+    /// closed.
     pub fn pending_len(&self) -> usize
         ensures { result ≡ length self.now.pending }
     {
         self.cells.pending_len()
     }
 
-    /// How many trees are kept.
+    /// Returns the number of kept trees.
     pub fn kept_len(&self) -> usize
         ensures { result ≡ length self.now.kept }
     {
         self.kept.len()
     }
 
-    /// The trees that are kept so far.
+    /// Returns the trees kept so far.
     pub fn kept(&self) -> Params<'a, '_>
         ensures { result ≡ self.now.kept }
     {
         Params::of(self.text, self.cells.column(), &self.kept)
     }
 
-    /// One more leaf is pending, a token of this kind.
+    /// Adds a token as a pending leaf of this kind.
     pub fn push_leaf(&mut self, leaf: Leaf, token: Token<'a>) -> Result<(), AllocError>
         requires kind { leaf_of token.sort ≡ Some leaf }
         requires stands { StandsIn self.old.text token }
@@ -133,8 +138,7 @@ impl<'a> Builder<'a> {
         self.push_leaf_at(leaf, token.place, token.text.len())
     }
 
-    /// One more leaf is pending, the token of this kind that stands at this place of the text and
-    /// has so many bytes.
+    /// Adds a pending leaf of this kind: the token at byte `at` of the text, with `len` bytes.
     pub fn push_leaf_at(&mut self, leaf: Leaf, at: u64, len: usize) -> Result<(), AllocError>
         requires { (t : Token) × IsLeafAt self.old.text leaf at len t }
         ensures { (t : Token) → IsLeafAt self.old.text leaf at len t → MatchResult result
@@ -148,7 +152,7 @@ impl<'a> Builder<'a> {
         Ok(())
     }
 
-    /// The trees that are pending behind a mark become one list, which is pending in their place.
+    /// Turns the pending trees after `mark` into one list, which is pending in their place.
     pub fn close_list(&mut self, mark: usize) -> Result<(), AllocError>
         requires { mark ≤ length self.old.pending }
         ensures { MatchResult result
@@ -163,9 +167,8 @@ impl<'a> Builder<'a> {
         Ok(())
     }
 
-    /// The keyword and the parameter that are pending behind a mark become a typed parameter, which
-    /// is pending in their place. Where the first of these two is no keyword they become an empty
-    /// list.
+    /// Turns the two pending trees after `mark`, a keyword and a parameter, into a typed parameter,
+    /// which is pending in their place. If the first one is no keyword, they become an empty list.
     pub fn close_typed(&mut self, mark: usize) -> Result<(), AllocError>
         requires { mark + 2 ≡ length self.old.pending }
         ensures { MatchResult result
@@ -184,7 +187,7 @@ impl<'a> Builder<'a> {
         Ok(())
     }
 
-    /// The trees that are pending behind a mark become one list, which is kept.
+    /// Turns the pending trees after `mark` into one list, which is kept.
     pub fn keep_list(&mut self, mark: usize) -> Result<(), AllocError>
         requires { mark ≤ length self.old.pending }
         ensures { MatchResult result
@@ -200,7 +203,7 @@ impl<'a> Builder<'a> {
         Ok(())
     }
 
-    /// The trees that are kept; what is still pending is dropped.
+    /// Returns the kept trees, and drops the pending ones.
     pub fn finish(self) -> Forest<'a>
         ensures { result ≡ self.entry.kept }
     {
@@ -208,7 +211,8 @@ impl<'a> Builder<'a> {
     }
 }
 
-// How many bytes of a leaf's token stand before what the leaf says, and as many behind it.
+// Returns how many bytes of a leaf's token come before the leaf's own spelling. As many come after
+// it.
 fn dots(leaf: Leaf) -> usize
     ensures { result ≡ dots_of leaf }
 {
@@ -218,7 +222,7 @@ fn dots(leaf: Leaf) -> usize
     }
 }
 
-// The cell of a leaf, the token of this kind that stands there in the text.
+// Returns the cell of a leaf of this kind: the token at byte `at` of the text, with `len` bytes.
 fn leaf_cell(text: &[u8], leaf: Leaf, at: u64, len: usize) -> Result<Cell, AllocError>
     requires { (t : Token) × IsLeafAt text.now leaf at len t }
     ensures { IfOk result (λ c. (t : Token) → IsLeafAt text.now leaf at len t
@@ -233,7 +237,7 @@ fn leaf_cell(text: &[u8], leaf: Leaf, at: u64, len: usize) -> Result<Cell, Alloc
     })
 }
 
-// The cell of a list.
+// Returns the cell of a list.
 fn list_cell(run: Run) -> Result<Cell, AllocError>
     ensures { IfOk result (λ c. c ≡ record { kind = List; len = run.count; at = run.first }) }
 {

@@ -4,12 +4,12 @@ use std::mem::size_of;
 
 const _: () = prove!(size_of::<Cell>() == 16);
 
-/// What a parameter is that has no parameters inside, or the keyword of one that has.
+/// The kinds of parameters that have no parameters inside, and of keywords.
 #[derive(Clone, Copy, Debug, PartialEq, Eq)]
 pub enum Leaf {
     /// `$`, no value
     Unset,
-    /// `*`, a value that is derived
+    /// `*`, a derived value
     Star,
     /// An integer or a real number.
     Number,
@@ -25,25 +25,25 @@ pub enum Leaf {
     Keyword,
 }
 
-/// What a cell is.
+/// The kinds of cells.
 #[derive(Clone, Copy, Debug, PartialEq, Eq)]
 pub enum Kind {
-    /// What has nothing inside.
+    /// A node with nothing inside.
     Leaf(Leaf),
     /// A typed parameter: its keyword and the parameter inside.
     Typed,
-    /// A list of parameters; also a record, its keyword before its parameters.
+    /// A list of parameters. Also a record: its keyword, then its parameters.
     List,
 }
 
-/// One node of a parameter. Those inside it stand before it in its column, side by side.
+/// A node of a parameter. The nodes inside it come before it in its column, adjacent to each other.
 #[derive(Clone, Copy)]
 pub struct Cell {
-    /// Which parameter, or part of one, it is.
+    /// The kind of the node.
     pub kind: Kind,
-    /// How many bytes a leaf has, or how many cells are inside a list.
+    /// The number of bytes of a leaf, or the number of cells directly inside a list.
     pub len: u32,
-    /// Where a leaf begins in the text, an element behind its dot; where the first cell inside
-    /// stands in the column.
+    /// The byte offset of a leaf in the text, after the dot of an element; otherwise the index in
+    /// the column of the first cell inside.
     pub at: u64,
 }

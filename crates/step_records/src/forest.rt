@@ -1,7 +1,7 @@
-//! Trees of parameters that are read.
+//! Trees of parameters that were read.
 
 ghost use Rattle.std.specs.Prelude.{◌≡◌, [], length};
-ghost use Rattle.step_records.specs.Building.{Builds, kept_by};
+ghost use Rattle.step_records.specs.steps.Building.{Builds, kept_by};
 
 use crate::cell::Cell;
 use crate::param::Params;
@@ -18,8 +18,8 @@ pub struct Forest<'a> {
 impl<'a> Model for Forest<'a> {
     ghost use Rattle.std.specs.Prelude.{List, []};
     ghost use Rattle.step_structures.specs.Trees.{Tree};
-    ghost use Rattle.step_records.specs.ComputedCodes.{coded_trees};
-    ghost use Rattle.step_records.specs.Building.{Builds, kept_by};
+    ghost use Rattle.step_records.specs.steps.ComputedCodes.{coded_trees};
+    ghost use Rattle.step_records.specs.steps.Building.{Builds, kept_by};
 
     ghost Value = { List Tree };
 
@@ -31,7 +31,7 @@ impl<'a> Model for Forest<'a> {
 }
 
 impl<'a> Forest<'a> {
-    /// The trees that these cells of a column are.
+    /// Returns the trees of these cells over a column.
     pub(crate) fn of(text: &'a [u8], cells: Vec<Cell>, kept: Vec<Cell>) -> Forest<'a>
         requires { Builds text.now cells.items kept.items [] }
         ensures { result ≡ kept_by text.now cells.items kept.items }
@@ -39,14 +39,14 @@ impl<'a> Forest<'a> {
         Forest { text, cells, kept }
     }
 
-    /// The trees.
+    /// Returns the trees.
     pub fn trees(&self) -> Params<'a, '_>
         ensures { result ≡ self.now }
     {
         Params::of(self.text, &self.cells, &self.kept)
     }
 
-    /// How many trees there are.
+    /// Returns the number of trees.
     pub fn len(&self) -> usize
         ensures { result ≡ length self.now }
     {

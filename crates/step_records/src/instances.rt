@@ -2,9 +2,9 @@
 
 ghost use Rattle.std.specs.Prelude.{◌≡◌, false, codes, MatchResult};
 ghost use Rattle.step_structures.specs.Words.{located};
-ghost use Rattle.step_structures.specs.Predict;
-ghost use Rattle.step_records.specs.Readers.{reading};
-ghost use Rattle.step_records.specs.Instances.{
+ghost use Rattle.step_structures.specs.steps.Predict;
+ghost use Rattle.step_records.specs.steps.Readers.{reading};
+ghost use Rattle.step_records.specs.steps.Instances.{
   IsNextName,
   HasNoName,
   TakesRows,
@@ -17,13 +17,20 @@ use crate::records::row;
 use crate::tokens::{expect, fault_at, is_word, refuse, take};
 use std::alloc::Global;
 use std::hash::RandomState;
-use step_lexis::token::{Mark, Sort, Token};
+use step_lexer::token::{Mark, Sort, Token};
 use step_structures::fault::{FaultKind, LeftOut, TextFault};
 
-/// So many instances may stand.
+/// The greatest number of instances.
 const INSTANCES: usize = 0xFFFF_FFFF;
 
-/// The name of one more instance, if it is none of those that stand already.
+/// Returns the name of the next instance.
+///
+/// # Errors
+///
+/// - E6 or E8 if the token isn't an instance name
+/// - E7 if the name is in `names` already
+/// - E8 if there are too many instances
+/// - `Memory` if memory runs out
 fn next_name(names: &mut Names, token: Token<'_>) -> Result<u64, TextFault>
     requires { Predict.is_word (codes "ENDSEC") (located token).lookahead ≡ false }
     ensures same { names.new ≡ names.old }
@@ -43,8 +50,8 @@ fn next_name(names: &mut Names, token: Token<'_>) -> Result<u64, TextFault>
     Ok(name)
 }
 
-/// The instances of a section behind those of others with these names, up to its end; their trees
-/// are kept.
+/// Reads the instances of a section up to its end, and keeps their trees. `names` has the names of
+/// all instances before, and gets those of this section.
 pub fn rows(
     alloc: Global,
     keys: RandomState,

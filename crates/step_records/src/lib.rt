@@ -1,5 +1,5 @@
-//! Records and instances of an exchange structure (ISO 10303-21, 11), read from tokens, and their parameters,
-//! as flat cells of one column.
+//! Records and instances of an exchange structure (ISO 10303-21, 11), read from tokens. Their
+//! parameters are flat cells of one column.
 #![tactic(auto)]
 
 pub mod builder;

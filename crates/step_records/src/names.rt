@@ -2,7 +2,7 @@
 
 ghost use Rattle.std.specs.Prelude.{◌≡◌, ◌≤◌, [], ◌∷◌, ◌++◌, length, IfOk};
 ghost use Rattle.step_structures.specs.Fits;
-ghost use Rattle.step_records.specs.Names.{AreFirst};
+ghost use Rattle.step_records.specs.steps.Names.{AreFirst};
 
 use indexmap::IndexSet;
 use std::alloc::{AllocError, Global};
@@ -11,21 +11,21 @@ use std::marker::Model;
 
 /// Names of instances, in the order in which they came.
 ///
-/// Names rise in most files, and then none is looked up. One that isn't greater than all before it
-/// is looked for in a set, into which those before it are put then, each once. The set hashes by
-/// keys that the text's author doesn't know, so that nobody can choose names that are slow to find.
+/// In most files names rise, and then none is looked up. A name that isn't greater than all before
+/// it is looked up in a set, after the names before it are inserted there, each once. The set's
+/// hash keys are random, so no file can be crafted to make look-ups slow.
 #[derive(Drop)]
 pub struct Names {
     list: Vec<u64>,
     greatest: u64,
-    // The first `looked_up` of the list.
+    // The first `looked_up` names of the list.
     set: IndexSet<u64, RandomState>,
     looked_up: usize,
 }
 
 impl Model for Names {
     ghost use Rattle.std.specs.Prelude.{ℕ, List};
-    ghost use Rattle.step_records.specs.Names.{IsKept};
+    ghost use Rattle.step_records.specs.steps.Names.{IsKept};
 
     ghost Value = { List ℕ };
 
@@ -34,7 +34,7 @@ impl Model for Names {
     ghost invariant = { λ n. IsKept n.list.items n.greatest n.set.keys n.looked_up };
 }
 
-// Puts the names of a list that aren't in a set yet there.
+// Inserts the names of a list that aren't in the set yet.
 fn look_up(
     set: &mut IndexSet<u64, RandomState>,
     looked_up: &mut usize,
@@ -52,7 +52,7 @@ fn look_up(
 }
 
 impl Names {
-    /// No names. It takes no memory.
+    /// Returns an empty list of names. It allocates no memory.
     pub fn new(alloc: Global, keys: RandomState) -> Self
         ensures { result ≡ [] }
     {
@@ -64,29 +64,30 @@ impl Names {
         }
     }
 
-    /// Asks for room for so many more. `Err` says that memory has no such room; nothing else
-    /// changes either way.
+    /// Reserves room for more names.
+    ///
+    /// `AllocError` means that there isn't that much memory. The names are unchanged either way.
     pub fn reserve(&mut self, names: usize) -> Result<(), AllocError>
         ensures { self.new ≡ self.old }
     {
         self.list.reserve(names)
     }
 
-    /// How many they are.
+    /// Returns the number of names.
     pub fn len(&self) -> usize
         ensures { result ≡ length self.now }
     {
         self.list.len()
     }
 
-    /// The names, in the order in which they came.
+    /// Returns the names, in the order in which they came.
     pub fn as_slice(&self) -> &[u64]
         ensures { result.now ≡ self.now }
     {
         &self.list
     }
 
-    /// Whether one of them is this name. `Err` says that memory ran out; no name is lost.
+    /// Whether `name` is one of the names. If memory runs out, no name is lost.
     pub fn contains(&mut self, name: u64) -> Result<bool, AllocError>
         ensures same { self.new ≡ self.old }
         ensures found { IfOk result (λ is. is ≡ Fits.has_name name self.old) }
@@ -98,7 +99,7 @@ impl Names {
         Ok(self.set.contains(&name))
     }
 
-    /// One more name, behind the others. `Err` says that memory ran out; they are as they were.
+    /// Appends a name. If memory runs out, the names are unchanged.
     pub fn push(&mut self, name: u64) -> Result<(), AllocError>
         ensures { IfOk result (λ _. self.new ≡ self.old ++ name ∷ []) }
     {

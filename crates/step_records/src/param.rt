@@ -1,4 +1,4 @@
-//! Parameters that are read, by their outermost parts.
+//! Parameters that were read, by their outermost parts.
 
 ghost use Rattle.std.specs.Prelude.{
   ◌≡◌,
@@ -23,7 +23,7 @@ ghost use Rattle.std.specs.Prelude.{
 ghost use Rattle.parsing.specs.Nodes.{run, said_at};
 ghost use Rattle.step_literals.specs.Tokens as token_kinds;
 ghost use Rattle.step_literals.specs.Tokens.{Spells};
-ghost use Rattle.step_records.specs.Building.{Builds, kept_by, tree_of};
+ghost use Rattle.step_records.specs.steps.Building.{Builds, kept_by, tree_of};
 ghost use Rattle.step_records.specs.Cells.{
   IsSpelt,
   all_of,
@@ -48,7 +48,7 @@ use std::marker::Model;
 use step_literals::literal::{Bits, Decimal, Text, Word};
 use step_literals::numbers::number_of;
 
-/// A parameter, or a record, of trees that are read: a view into their column.
+/// A parameter, or a record, of trees that were read: a view into their column.
 #[derive(Drop)]
 pub struct Param<'a, 't> {
     text: &'a [u8],
@@ -59,8 +59,8 @@ pub struct Param<'a, 't> {
 impl<'a, 't> Model for Param<'a, 't> {
     ghost use Rattle.std.specs.Prelude.{[], ◌∷◌};
     ghost use Rattle.step_structures.specs.Trees.{Tree};
-    ghost use Rattle.step_records.specs.ComputedCodes.{coded_tree};
-    ghost use Rattle.step_records.specs.Building.{Builds, tree_of};
+    ghost use Rattle.step_records.specs.steps.ComputedCodes.{coded_tree};
+    ghost use Rattle.step_records.specs.steps.Building.{Builds, tree_of};
 
     ghost Value = { Tree };
 
@@ -71,7 +71,7 @@ impl<'a, 't> Model for Param<'a, 't> {
     ghost invariant = { λ p. Builds p.text.now p.column.now (p.cell ∷ []) [] };
 }
 
-/// Parameters side by side.
+/// Adjacent parameters.
 #[derive(Drop)]
 pub struct Params<'a, 't> {
     text: &'a [u8],
@@ -83,8 +83,8 @@ pub struct Params<'a, 't> {
 impl<'a, 't> Model for Params<'a, 't> {
     ghost use Rattle.std.specs.Prelude.{List, []};
     ghost use Rattle.step_structures.specs.Trees.{Tree};
-    ghost use Rattle.step_records.specs.ComputedCodes.{coded_trees};
-    ghost use Rattle.step_records.specs.Building.{Builds, kept_by};
+    ghost use Rattle.step_records.specs.steps.ComputedCodes.{coded_trees};
+    ghost use Rattle.step_records.specs.steps.Building.{Builds, kept_by};
 
     ghost Value = { List Tree };
 
@@ -95,12 +95,12 @@ impl<'a, 't> Model for Params<'a, 't> {
     ghost invariant = { λ p. Builds p.text.now p.column.now p.cells.now [] };
 }
 
-/// The outermost part of a parameter, with what is inside it.
+/// The outermost part of a parameter, with views of what is inside it.
 #[derive(Drop)]
 pub enum Node<'a, 't> {
     /// `$`, no value
     Unset,
-    /// `*`, a value that is derived
+    /// `*`, a derived value
     Star,
     /// An integer or a real number.
     Number(Decimal<'a>),
@@ -108,20 +108,20 @@ pub enum Node<'a, 't> {
     Text(Text<'a>),
     /// A binary.
     Bits(Bits<'a>),
-    /// An element of an enumeration, without its dots.
+    /// An enumeration element, without its dots.
     Element(Word<'a>),
-    /// A reference to the instance of this name, and how it is spelt.
+    /// A reference to the instance with this name, and its spelling.
     Reference(u64, &'a [u8]),
-    /// The keyword of a record, the first in its list.
+    /// The keyword of a record, the first node in its list.
     Keyword(Word<'a>),
     /// A typed parameter: its keyword and the parameter inside.
     Typed(Word<'a>, Param<'a, 't>),
-    /// A list of parameters; also a record, its keyword before its parameters.
+    /// A list of parameters. Also a record: its keyword, then its parameters.
     List(Params<'a, 't>),
 }
 
 impl<'a, 't> Param<'a, 't> {
-    // The tree that a cell over a column is.
+    // Returns the tree of a cell over a column.
     fn of(text: &'a [u8], column: &'t [Cell], cell: Cell) -> Param<'a, 't>
         requires { Builds text.now column.now (cell ∷ []) [] }
         ensures { result ≡ tree_of text.now column.now cell }
@@ -129,7 +129,7 @@ impl<'a, 't> Param<'a, 't> {
         Param { text, column, cell }
     }
 
-    /// Its outermost part.
+    /// Returns the outermost part of the parameter.
     pub fn node(&self) -> Node<'a, 't>
         ensures { node_value result ≡ self.now }
     {
@@ -144,8 +144,8 @@ impl<'a, 't> Param<'a, 't> {
         }
     }
 
-    /// Its spelling, where the normal text has it as it stands: that of a number, a string, a
-    /// binary, or a reference with no zero before its number.
+    /// Returns the parameter's spelling, if the normal text uses it unchanged: for a number, a
+    /// string, a binary, or a reference without leading zeros.
     pub fn literal(&self) -> Option<&'a [u8]>
         ensures says { IfSome result (λ s. plain_tree self.now ≡ s.now) }
         ensures which { is_some result ≡ stays_as_spelt self.now }
@@ -156,8 +156,8 @@ impl<'a, 't> Param<'a, 't> {
         }
     }
 
-    /// What is right inside a list of parameters, or the keyword and the parameters of a record;
-    /// nothing where it is something else.
+    /// Returns what is directly inside a list of parameters, or the keyword and the parameters of a
+    /// record. Empty for anything else.
     pub fn parts(&self) -> Params<'a, 't>
         ensures { result ≡ parts_of self.now }
     {
@@ -167,7 +167,7 @@ impl<'a, 't> Param<'a, 't> {
         }
     }
 
-    /// The keyword that it is; no bytes where it is something else.
+    /// Returns the keyword, or no bytes if the parameter isn't one.
     pub fn keyword(&self) -> &'a [u8]
         ensures { result.now ≡ keyword_of self.now }
     {
@@ -179,7 +179,7 @@ impl<'a, 't> Param<'a, 't> {
 }
 
 impl<'a, 't> Params<'a, 't> {
-    /// The trees that cells over a column are.
+    /// Returns the trees of cells over a column.
     pub(crate) fn of(text: &'a [u8], column: &'t [Cell], cells: &'t [Cell]) -> Params<'a, 't>
         requires { Builds text.now column.now cells.now [] }
         ensures { result ≡ kept_by text.now column.now cells.now }
@@ -191,14 +191,14 @@ impl<'a, 't> Params<'a, 't> {
         }
     }
 
-    /// How many they are.
+    /// Returns the number of parameters.
     pub fn len(&self) -> usize
         ensures { result ≡ length self.now }
     {
         self.cells.len()
     }
 
-    /// One of them, counted from 0.
+    /// Returns the parameter at `index`, counted from 0, if any.
     pub fn item(&self, index: usize) -> Option<Param<'a, 't>>
         ensures { result ≡ slice_get self.now index }
     {
@@ -209,7 +209,7 @@ impl<'a, 't> Params<'a, 't> {
         }
     }
 
-    /// The first so many of them, or all, and the others.
+    /// Returns the first `count` parameters, or all if there are fewer, and the others.
     pub fn split(&self, count: usize) -> (Params<'a, 't>, Params<'a, 't>)
         ensures front { result.0 ≡ take count self.now }
         ensures back { result.1 ≡ drop count self.now }
@@ -221,9 +221,9 @@ impl<'a, 't> Params<'a, 't> {
         )
     }
 
-    /// The stretch of the text where they stand, where the normal text has it as it stands: each is
-    /// a number, a string or a binary, or a list with such right inside it, and one comma stands
-    /// between each and the next.
+    /// Returns the part of the text that the parameters occupy, if the normal text has it
+    /// unchanged. Each parameter must be a number, a string or a binary, or a list of such. Exactly
+    /// one comma must separate each from the next.
     pub fn spelling(&self) -> Option<&'a [u8]>
         ensures says { IfSome result (λ s. plain_trees (all_of self.now) ≡ s.now) }
         ensures which { IfSome result (λ s. are_literals (all_of self.now) ≡ true) }
@@ -236,7 +236,7 @@ impl<'a, 't> Params<'a, 't> {
         Some(bytes_of(self.text, place))
     }
 
-    /// One of them that is there.
+    /// Returns the parameter at `index`, which must exist.
     pub fn at(&self, index: usize) -> Param<'a, 't>
         requires { index < length self.now }
         ensures { slice_get self.now index ≡ Some result }
@@ -245,7 +245,7 @@ impl<'a, 't> Params<'a, 't> {
     }
 }
 
-/// So many items from a place on.
+/// Returns the `len` items from index `at` on.
 pub(crate) fn part<'t, T>(items: &'t [T], at: u64, len: u32) -> &'t [T]
     requires { at + len ≤ length items.now }
     ensures { result.now ≡ take len (drop at items.now) }
@@ -255,7 +255,7 @@ pub(crate) fn part<'t, T>(items: &'t [T], at: u64, len: u32) -> &'t [T]
     part
 }
 
-/// The first so many items, or all, and the others.
+/// Returns the first `count` items, or all if there are fewer, and the others.
 pub fn cut<'t, T>(items: &'t [T], count: usize) -> (&'t [T], &'t [T])
     ensures front { result.0.now ≡ take count items.now }
     ensures back { result.1.now ≡ drop count items.now }
@@ -267,7 +267,7 @@ pub fn cut<'t, T>(items: &'t [T], count: usize) -> (&'t [T], &'t [T])
     }
 }
 
-// The number that a reference writes behind its mark.
+// Returns the number that a reference writes after its `#`.
 fn name_of(spelling: &[u8]) -> u64
     requires spelt { Spells token_kinds.name spelling.now }
     requires fits { name_of spelling.now < 2 ^ 64 }
@@ -277,7 +277,7 @@ fn name_of(spelling: &[u8]) -> u64
     number_of(digits).unwrap()
 }
 
-// A leaf that is spelt like this.
+// Returns the leaf of this kind with this spelling.
 fn leaf_node<'a, 't>(leaf: Leaf, spelling: &'a [u8]) -> Node<'a, 't>
     requires { IsSpelt leaf spelling.now }
     ensures { node_value result ≡ leaf_as leaf spelling.now }
@@ -294,7 +294,7 @@ fn leaf_node<'a, 't>(leaf: Leaf, spelling: &'a [u8]) -> Node<'a, 't>
     }
 }
 
-// Whether no zero stands before the number of a reference.
+// Whether the number of a reference has no leading zero.
 fn is_shortest(spelling: &[u8]) -> bool
     requires { Spells token_kinds.name spelling.now }
     ensures { result ≡ not (get_or spelling.now 1 0 == 48) }
@@ -302,7 +302,7 @@ fn is_shortest(spelling: &[u8]) -> bool
     spelling[1] != b'0'
 }
 
-// A leaf that is spelt like this, where the normal text has it so.
+// Returns the spelling of a leaf, if the normal text uses it unchanged.
 fn leaf_literal<'a>(leaf: Leaf, spelling: &'a [u8]) -> Option<&'a [u8]>
     requires { IsSpelt leaf spelling.now }
     ensures says { IfSome result (λ s. plain_tree (leaf_as leaf spelling.now) ≡ s.now) }
@@ -315,7 +315,7 @@ fn leaf_literal<'a>(leaf: Leaf, spelling: &'a [u8]) -> Option<&'a [u8]>
     }
 }
 
-// Whether a cell is a keyword.
+// Whether a cell of this kind is a keyword.
 fn is_keyword(kind: Kind) -> bool
     ensures { result ≡ is_keyword kind }
 {
@@ -325,8 +325,8 @@ fn is_keyword(kind: Kind) -> bool
     }
 }
 
-// The keyword and the parameter that stand at a place of a column; no parameters where what stands
-// there is no keyword.
+// Returns the typed parameter of the keyword and the parameter at index `at` of a column. If the
+// cell there is no keyword, returns an empty list.
 fn typed_node<'a, 't>(text: &'a [u8], column: &'t [Cell], at: u64) -> Node<'a, 't>
     requires builds { Builds text.now column.now [] [] }
     requires within { at + 2 ≤ length column.now }

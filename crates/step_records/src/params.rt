@@ -1,14 +1,14 @@
 //! Parameters, read from tokens (ISO 10303-21, 11).
 
 ghost use Rattle.std.specs.Prelude.{◌≡◌, ◌≤◌, ◌<◌, true, false, [], ◌∷◌, Some, MatchResult};
-ghost use Rattle.step_lexis.specs.declared.token.Mark.TheVariants.{Open};
+ghost use Rattle.step_lexer.specs.declared.token.Mark.TheVariants.{Open};
 ghost use Rattle.step_records.specs.declared.cell.Leaf.TheVariants.{Keyword};
-ghost use Rattle.step_structures.specs.Predict;
+ghost use Rattle.step_structures.specs.steps.Predict;
 ghost use Rattle.step_structures.specs.Words.{located};
-ghost use Rattle.step_structures.specs.Predict.{Value, Items, params_symbols};
-ghost use Rattle.step_records.specs.Tokens.{StandsIn, leaf_of};
-ghost use Rattle.step_records.specs.Readers.{reading};
-ghost use Rattle.step_records.specs.Steps.{
+ghost use Rattle.step_structures.specs.steps.Predict.{Value, Items, params_symbols};
+ghost use Rattle.step_records.specs.steps.Tokens.{StandsIn, leaf_of};
+ghost use Rattle.step_records.specs.steps.Readers.{reading};
+ghost use Rattle.step_records.specs.steps.Steps.{
   StopsIn,
   StopsAnyway,
   TakesInner,
@@ -24,13 +24,13 @@ ghost use Rattle.step_records.specs.Steps.{
 use crate::cell::Leaf;
 use crate::reader::Reader;
 use crate::tokens::{expect, fault_at, goes_on, is_mark, refuse, take};
-use step_lexis::token::{Mark, Sort, Token};
+use step_lexer::token::{Mark, Sort, Token};
 use step_structures::fault::{FaultKind, TextFault};
 
-/// So many parentheses may be open at once.
+/// The greatest number of parentheses that may be open at once.
 const LEVELS: u32 = 64;
 
-/// The parameter that is this token by itself.
+/// Adds the parameter that is this token by itself.
 fn leaf<'a>(reader: &mut Reader<'a>, first: Token<'a>, depth: u32) -> Result<(), TextFault>
     requires stands { StandsIn reader.old.built.text first }
     requires keyword { leaf_of first.sort ≡ Some Keyword → ⊥ }
@@ -46,7 +46,7 @@ fn leaf<'a>(reader: &mut Reader<'a>, first: Token<'a>, depth: u32) -> Result<(),
     Ok(())
 }
 
-/// The parameter in parentheses behind the keyword of a typed one.
+/// Reads the parameter in parentheses after the keyword of a typed one.
 #[cycle(params)]
 fn inner(reader: &mut Reader<'_>, depth: u32) -> Result<(), TextFault>
     requires { depth < 64 }
@@ -60,7 +60,7 @@ fn inner(reader: &mut Reader<'_>, depth: u32) -> Result<(), TextFault>
     Ok(())
 }
 
-/// The typed parameter that begins with this token, its keyword.
+/// Reads the typed parameter that begins with this token, its keyword.
 #[cycle(params)]
 fn typed<'a>(reader: &mut Reader<'a>, first: Token<'a>, depth: u32) -> Result<(), TextFault>
     requires depth { depth < 64 }
@@ -77,7 +77,7 @@ fn typed<'a>(reader: &mut Reader<'a>, first: Token<'a>, depth: u32) -> Result<()
     Ok(())
 }
 
-/// The list whose parenthesis is read.
+/// Reads the rest of a list whose opening parenthesis is read.
 #[cycle(params)]
 fn list(reader: &mut Reader<'_>, depth: u32) -> Result<(), TextFault>
     requires { depth < 64 }
@@ -91,7 +91,7 @@ fn list(reader: &mut Reader<'_>, depth: u32) -> Result<(), TextFault>
     Ok(())
 }
 
-/// The parameter that begins with this token, with so many parentheses depth around it.
+/// Reads the parameter that begins with this token, with `depth` parentheses open around it.
 #[cycle(params)]
 fn value<'a>(reader: &mut Reader<'a>, first: Token<'a>, depth: u32) -> Result<(), TextFault>
     requires depth { depth ≤ 64 }
@@ -117,8 +117,8 @@ fn value<'a>(reader: &mut Reader<'a>, first: Token<'a>, depth: u32) -> Result<()
     }
 }
 
-/// The next parameter where no layout comes before it and it begins with no keyword, with so many
-/// parentheses open around it; whether it was read. Else nothing is.
+/// Reads the next parameter, if it has no layout before it and begins with no keyword. `depth`
+/// parentheses are open around it. Returns whether it did; otherwise nothing is read.
 #[cycle(params)]
 #[inline(always)]
 fn next_item(reader: &mut Reader<'_>, depth: u32) -> Result<bool, TextFault>
@@ -140,7 +140,7 @@ fn next_item(reader: &mut Reader<'_>, depth: u32) -> Result<bool, TextFault>
     Ok(true)
 }
 
-/// The next parameter, with so many parentheses open around it. It may stand behind layout and
+/// Reads the next parameter, with `depth` parentheses open around it. It may come after layout and
 /// begin with a keyword.
 #[cycle(params)]
 fn item_any(reader: &mut Reader<'_>, depth: u32) -> Result<(), TextFault>
@@ -154,7 +154,7 @@ fn item_any(reader: &mut Reader<'_>, depth: u32) -> Result<(), TextFault>
     Ok(())
 }
 
-/// The next parameter, with so many parentheses open around it.
+/// Reads the next parameter, with `depth` parentheses open around it.
 #[cycle(params)]
 #[inline(always)]
 fn item(reader: &mut Reader<'_>, depth: u32) -> Result<(), TextFault>
@@ -169,8 +169,8 @@ fn item(reader: &mut Reader<'_>, depth: u32) -> Result<(), TextFault>
     item_any(reader, depth)
 }
 
-/// The first parameter of a list, or the parenthesis that closes it; whether it is a parameter.
-/// Either may stand behind layout, and the parameter begin with a keyword.
+/// Reads the first parameter of a list, or its closing parenthesis. Returns whether it was a
+/// parameter. Either may come after layout, and the parameter may begin with a keyword.
 #[cycle(params)]
 fn first_item_any(reader: &mut Reader<'_>, depth: u32) -> Result<bool, TextFault>
     requires { depth ≤ 64 }
@@ -186,7 +186,8 @@ fn first_item_any(reader: &mut Reader<'_>, depth: u32) -> Result<bool, TextFault
     Ok(true)
 }
 
-/// The first parameter of a list, or the parenthesis that closes it; whether it is a parameter.
+/// Reads the first parameter of a list, or its closing parenthesis. Returns whether it was a
+/// parameter.
 #[cycle(params)]
 #[inline(always)]
 fn first_item(reader: &mut Reader<'_>, depth: u32) -> Result<bool, TextFault>
@@ -201,7 +202,8 @@ fn first_item(reader: &mut Reader<'_>, depth: u32) -> Result<bool, TextFault>
     first_item_any(reader, depth)
 }
 
-/// The parameters of a list behind its parenthesis, and the closing one.
+/// Reads the parameters of a list after its opening parenthesis, and the closing one. `depth`
+/// parentheses are open, including that of the list.
 #[cycle(params)]
 pub fn items(reader: &mut Reader<'_>, depth: u32) -> Result<(), TextFault>
     requires { depth ≤ 64 }
@@ -218,7 +220,8 @@ pub fn items(reader: &mut Reader<'_>, depth: u32) -> Result<(), TextFault>
     Ok(())
 }
 
-/// The parameters of a record, in their parentheses, with so many open around it.
+/// Reads the parameters of a record in their parentheses, with `depth` parentheses open around
+/// them.
 pub fn record_params(reader: &mut Reader<'_>, depth: u32) -> Result<(), TextFault>
     requires { depth < 64 }
     ensures { MatchResult result

@@ -1,14 +1,14 @@
-//! A text that is read token by token, and what is built of it.
+//! A text that is read token by token, and the trees that are built from it.
 
 ghost use Rattle.std.specs.Prelude.{◌≡◌, ◌≤◌, ◌+◌, ◌++◌, [], ◌∷◌, Some, length, take, drop, IfOk, IfSome, IsTrue};
 ghost use Rattle.step_records.specs.declared.cell.Leaf.TheVariants.{Keyword};
-ghost use Rattle.step_lexis.specs.Front.{IsFront};
-ghost use Rattle.step_lexis.specs.Reading.{Answers, SkipsMark, left, start_of};
-ghost use Rattle.step_records.specs.Building.{list_of};
+ghost use Rattle.step_lexer.specs.Front.{IsFront};
+ghost use Rattle.step_lexer.specs.Reading.{Answers, SkipsMark, left, start_of};
+ghost use Rattle.step_records.specs.steps.Building.{list_of};
 ghost use Rattle.step_records.specs.Cells.{typed_of};
-ghost use Rattle.step_records.specs.Tokens.{StandsIn, leaf_of, leaf_tree};
-ghost use Rattle.step_records.specs.Readers.{reading};
-ghost use Rattle.step_records.specs.Steps.{IsParameter, PushesNext, PushesWord};
+ghost use Rattle.step_records.specs.steps.Tokens.{StandsIn, leaf_of, leaf_tree};
+ghost use Rattle.step_records.specs.steps.Readers.{reading};
+ghost use Rattle.step_records.specs.steps.Steps.{IsParameter, PushesNext, PushesWord};
 
 use crate::builder::Builder;
 use crate::cell::Leaf;
@@ -16,11 +16,11 @@ use crate::forest::Forest;
 use crate::param::Params;
 use std::alloc::{AllocError, Global};
 use std::marker::Model;
-use step_lexis::lexer::Lexer;
-use step_lexis::token::{Mark, Sort, Token};
+use step_lexer::lexer::Lexer;
+use step_lexer::token::{Mark, Sort, Token};
 use step_literals::fault::TextFault;
 
-/// The lexer of a text, and the trees that are built of its tokens.
+/// The lexer of a text, and the trees that are built from its tokens.
 #[derive(Drop)]
 pub struct Reader<'a> {
     lexer: Lexer<'a>,
@@ -29,7 +29,7 @@ pub struct Reader<'a> {
 
 impl<'a> Model for Reader<'a> {
     ghost use Rattle.std.specs.Prelude.{◌≡◌};
-    ghost use Rattle.step_records.specs.Readers.{Progress, coded_progress};
+    ghost use Rattle.step_records.specs.steps.Readers.{Progress, coded_progress};
 
     ghost Value = { Progress };
 
@@ -47,7 +47,7 @@ fn is_keyword(sort: Sort<'_>) -> bool
     matches!(sort, Sort::Keyword(_))
 }
 
-// What kind of leaf a token of this sort is, if it is a parameter by itself.
+// Returns the kind of leaf that a token of this sort is, if it is a parameter by itself.
 fn parameter(sort: Sort<'_>) -> Option<Leaf>
     ensures { IfSome result (λ leaf. IsParameter leaf sort.entry) }
 {
@@ -59,7 +59,7 @@ fn parameter(sort: Sort<'_>) -> Option<Leaf>
 }
 
 impl<'a> Reader<'a> {
-    /// Nothing is read of a text yet.
+    /// Returns a reader that has read nothing of `text`.
     pub fn new(alloc: Global, text: &'a [u8]) -> Self
         ensures { result ≡ record {
           place = start_of text.now;
@@ -72,23 +72,25 @@ impl<'a> Reader<'a> {
         }
     }
 
-    /// How many bytes of the text are read.
+    /// Returns the number of bytes of the text that are read.
     pub fn place(&self) -> u64
         ensures { result ≡ self.now.place }
     {
         self.lexer.place()
     }
 
-    /// Asks for room for so many more cells and trees. `Err` says that memory has no such room;
-    /// nothing else changes either way, and what is read later asks for as much as it needs.
+    /// Reserves room for more cells and trees.
+    ///
+    /// `AllocError` means that there isn't that much memory. Nothing else changes either way, and
+    /// later calls still allocate what they need.
     pub fn reserve(&mut self, cells: usize, trees: usize) -> Result<(), AllocError>
         ensures { self.new ≡ self.old }
     {
         self.builder.reserve(cells, trees)
     }
 
-    /// Reads this mark where it stands next and no layout before it; whether it does. Else nothing
-    /// is read.
+    /// Reads the mark `wanted` if it comes next, without layout before it. Returns whether it did;
+    /// otherwise nothing is read.
     #[inline(always)]
     pub fn skip_mark(&mut self, wanted: Mark) -> bool
         ensures skips { SkipsMark wanted result (reading self.old) (reading self.new) }
@@ -97,8 +99,8 @@ impl<'a> Reader<'a> {
         self.lexer.skip_mark(wanted)
     }
 
-    /// Reads the token of this sort and length, which stands next, and makes it a pending leaf,
-    /// where it is a parameter by itself; whether it did. Else nothing is read.
+    /// Reads the next token, which has this sort and length, as a pending leaf, if it is a
+    /// parameter by itself. Returns whether it did; otherwise nothing is read.
     #[inline(always)]
     fn push_front(&mut self, sort: Sort<'a>, len: usize) -> Result<bool, AllocError>
         requires { IsFront (left (reading self.old)) sort len }
@@ -112,13 +114,14 @@ impl<'a> Reader<'a> {
         Ok(true)
     }
 
-    /// Reads the token that stands next and makes it a pending leaf, where no layout comes before it
-    /// and it is a parameter by itself; whether it did. Else nothing is read.
+    /// Reads the next token as a pending leaf, if it has no layout before it and is a parameter by
+    /// itself. Returns whether it did; otherwise nothing is read. `false` doesn't mean that there
+    /// is no such token.
     #[inline(always)]
     pub fn push_next(&mut self) -> Result<bool, AllocError>
         ensures { IfOk result (λ is. PushesNext is self.old self.new) }
     {
-        // Most parameters are numbers.
+        // Numbers are tested first, since most parameters are numbers.
         if let Some((sort, len)) = self.lexer.peek_number() {
             return self.push_front(sort, len);
         }
@@ -128,8 +131,8 @@ impl<'a> Reader<'a> {
         self.push_front(sort, len)
     }
 
-    /// Reads the keyword that stands next and makes it a pending leaf, where no layout comes before
-    /// it; whether it did. Else nothing is read.
+    /// Reads the next token as a pending leaf, if it is a keyword without layout before it. Returns
+    /// whether it did; otherwise nothing is read.
     #[inline(always)]
     pub fn push_keyword(&mut self) -> Result<bool, AllocError>
         ensures { IfOk result (λ is. PushesWord is self.old self.new) }
@@ -146,7 +149,7 @@ impl<'a> Reader<'a> {
         Ok(true)
     }
 
-    /// The next token, as the lexer answers it.
+    /// Returns the next token as the lexer does.
     pub fn next_token(&mut self) -> Result<Option<Token<'a>>, TextFault>
         ensures answers { Answers (reading self.old) result (reading self.new) }
         ensures built { self.new.built ≡ self.old.built }
@@ -154,14 +157,14 @@ impl<'a> Reader<'a> {
         self.lexer.next_token()
     }
 
-    /// How many trees are pending.
+    /// Returns the number of pending trees.
     pub fn pending_len(&self) -> usize
         ensures { result ≡ length self.now.built.pending }
     {
         self.builder.pending_len()
     }
 
-    /// One more leaf is pending, a token of this kind.
+    /// Adds a token as a pending leaf of this kind.
     pub fn push_leaf(&mut self, leaf: Leaf, token: Token<'a>) -> Result<(), AllocError>
         requires kind { leaf_of token.sort ≡ Some leaf }
         requires stands { StandsIn self.old.built.text token }
@@ -175,7 +178,7 @@ impl<'a> Reader<'a> {
         Ok(())
     }
 
-    /// The trees that are pending behind a mark become one list, which is pending in their place.
+    /// Turns the pending trees after `mark` into one list, which is pending in their place.
     pub fn close_list(&mut self, mark: usize) -> Result<(), AllocError>
         requires { mark ≤ length self.old.built.pending }
         ensures { IfOk result (λ _. self.new ≡ record self.old {
@@ -189,7 +192,8 @@ impl<'a> Reader<'a> {
         Ok(())
     }
 
-    /// The keyword and the parameter that are pending behind a mark become a typed parameter.
+    /// Turns the two pending trees after `mark`, a keyword and a parameter, into a typed parameter,
+    /// which is pending in their place.
     pub fn close_typed(&mut self, mark: usize) -> Result<(), AllocError>
         requires { mark + 2 ≡ length self.old.built.pending }
         ensures { IfOk result (λ _. self.new ≡ record self.old {
@@ -203,7 +207,7 @@ impl<'a> Reader<'a> {
         Ok(())
     }
 
-    /// The trees that are pending behind a mark become one list, which is kept.
+    /// Turns the pending trees after `mark` into one list, which is kept.
     pub fn keep_list(&mut self, mark: usize) -> Result<(), AllocError>
         requires { mark ≤ length self.old.built.pending }
         ensures { IfOk result (λ _. self.new ≡ record self.old {
@@ -217,21 +221,21 @@ impl<'a> Reader<'a> {
         Ok(())
     }
 
-    /// How many trees are kept.
+    /// Returns the number of kept trees.
     pub fn kept_len(&self) -> usize
         ensures { result ≡ length self.now.built.kept }
     {
         self.builder.kept_len()
     }
 
-    /// The trees that are kept.
+    /// Returns the kept trees.
     pub fn kept(&self) -> Params<'a, '_>
         ensures { result ≡ self.now.built.kept }
     {
         self.builder.kept()
     }
 
-    /// The trees that are kept; what is still pending is dropped.
+    /// Returns the kept trees, and drops the pending ones.
     pub fn finish(self) -> Forest<'a>
         ensures { result ≡ self.entry.built.kept }
     {

@@ -1,15 +1,15 @@
-//! What stands for an instance, read from tokens (ISO 10303-21, 11).
+//! Records and the forms of instances, read from tokens (ISO 10303-21, 11).
 
 ghost use Rattle.std.specs.Prelude.{◌≡◌, ◌<◌, false, [], ◌∷◌, ◌++◌, Some, MatchResult, OnOk, drop};
-ghost use Rattle.step_lexis.specs.declared.token.Mark.TheVariants.{Close};
-ghost use Rattle.step_records.specs.Tokens.{StandsIn, leaf_of};
+ghost use Rattle.step_lexer.specs.declared.token.Mark.TheVariants.{Close};
+ghost use Rattle.step_records.specs.steps.Tokens.{StandsIn, leaf_of};
 ghost use Rattle.step_records.specs.declared.cell.Leaf.TheVariants.{Keyword};
 ghost use Rattle.step_structures.specs.Words.{located};
-ghost use Rattle.step_structures.specs.Predict;
-ghost use Rattle.step_structures.specs.Predict.{Body, PartialRecords, params_symbols, row_symbols};
-ghost use Rattle.step_records.specs.Readers.{reading};
-ghost use Rattle.step_records.specs.Steps.{StopsIn};
-ghost use Rattle.step_records.specs.Records.{
+ghost use Rattle.step_structures.specs.steps.Predict;
+ghost use Rattle.step_structures.specs.steps.Predict.{Body, PartialRecords, params_symbols, row_symbols};
+ghost use Rattle.step_records.specs.steps.Readers.{reading};
+ghost use Rattle.step_records.specs.steps.Steps.{StopsIn};
+ghost use Rattle.step_records.specs.steps.Records.{
   any_is,
   texts_of,
   TakesRecord,
@@ -26,25 +26,26 @@ use crate::tokens::{expect, fault_at, is_mark, is_said, refuse, take};
 use indexmap::IndexSet;
 use std::alloc::{AllocFailed, Global};
 use std::hash::RandomState;
-use step_lexis::token::{Mark, Sort, Token};
+use step_lexer::token::{Mark, Sort, Token};
 use step_literals::literal::Word;
 use step_structures::fault::{FaultKind, TextFault};
 
-/// So many partial records are looked through one by one; most external records have no more. The
-/// keywords of those behind them are in a set.
+/// The number of keywords of partial records that are compared one by one. Most external records
+/// have no more. Later keywords are in a set.
 const LOOKED_THROUGH: usize = 8;
 
-/// Keywords of partial records, hashed as names are.
+/// The set of the later keywords of partial records.
 type Keywords<'a> = IndexSet<Word<'a>, RandomState>;
 
-/// Whether one of these is this keyword, whatever the case of its letters.
+/// Whether one of these words is this keyword, whatever the case of its letters.
 fn is_among(words: &[Word<'_>], keyword: Word<'_>) -> bool
     ensures { result ≡ any_is keyword.entry.text.now words.now }
 {
     words.iter().any(|word| is_said(keyword, word.spelling()))
 }
 
-/// The same, where those behind the ones that are looked through are in a set.
+/// Whether one of these words is this keyword. `further` has the words after the first
+/// `LOOKED_THROUGH`.
 fn has_keyword(words: &[Word<'_>], further: &Keywords<'_>, keyword: Word<'_>) -> bool
     requires { further.now.keys ≡ drop 8 words.now }
     ensures { result ≡ any_is keyword.entry.text.now words.now }
@@ -55,7 +56,7 @@ fn has_keyword(words: &[Word<'_>], further: &Keywords<'_>, keyword: Word<'_>) ->
     is_among(&words[..LOOKED_THROUGH], keyword) || further.contains(&keyword)
 }
 
-/// Keeps one more keyword behind these, which is none of them.
+/// Adds a keyword, which isn't among `words`, to the set if it is after the first `LOOKED_THROUGH`.
 fn keep_keyword<'a>(
     further: &mut Keywords<'a>,
     words: &[Word<'a>],
@@ -72,7 +73,7 @@ fn keep_keyword<'a>(
     Ok(())
 }
 
-/// The record that begins with this keyword, with so many parentheses open around it.
+/// Reads the record that begins with this keyword, with `depth` parentheses open around it.
 pub fn record<'a>(reader: &mut Reader<'a>, first: Token<'a>, depth: u32) -> Result<(), TextFault>
     requires depth { depth < 64 }
     requires keyword { leaf_of first.sort ≡ Some Keyword }
@@ -86,8 +87,8 @@ pub fn record<'a>(reader: &mut Reader<'a>, first: Token<'a>, depth: u32) -> Resu
     Ok(())
 }
 
-/// The partial record that begins with this token, behind others with these keywords. It answers
-/// its own.
+/// Reads the partial record that begins with this token, after others with the keywords `words`.
+/// Returns its own keyword.
 fn partial_record<'a>(
     reader: &mut Reader<'a>,
     first: Token<'a>,
@@ -114,8 +115,8 @@ fn partial_record<'a>(
     Ok(keyword)
 }
 
-/// The partial records of an external one behind its parenthesis, and the closing one. Their
-/// keywords are kept.
+/// Reads the partial records of an external record after its opening parenthesis, and the closing
+/// one. `words` and `further` get their keywords.
 fn each_partial_record<'a>(
     reader: &mut Reader<'a>,
     words: &mut Vec<Word<'a>>,
@@ -141,7 +142,8 @@ fn each_partial_record<'a>(
     }
 }
 
-/// The partial records of an external one behind its parenthesis, and the closing one.
+/// Reads the partial records of an external record after its opening parenthesis, and the closing
+/// one.
 fn partial_records(
     alloc: Global,
     keys: RandomState,
@@ -156,7 +158,7 @@ fn partial_records(
     each_partial_record(reader, &mut words, &mut further)
 }
 
-/// What stands for an instance behind its `=`. It may stand behind layout.
+/// Reads the form of an instance after its `=`. It may come after layout.
 fn form_any(alloc: Global, keys: RandomState, reader: &mut Reader<'_>) -> Result<(), TextFault>
     ensures { MatchResult result
         (λ _. TakesForm reader.old reader.new)
@@ -172,7 +174,7 @@ fn form_any(alloc: Global, keys: RandomState, reader: &mut Reader<'_>) -> Result
     record(reader, first, 0)
 }
 
-/// What stands for an instance behind its `=`.
+/// Reads the form of an instance after its `=`.
 fn form(alloc: Global, keys: RandomState, reader: &mut Reader<'_>) -> Result<(), TextFault>
     ensures { MatchResult result
         (λ _. TakesForm reader.old reader.new)
@@ -184,7 +186,7 @@ fn form(alloc: Global, keys: RandomState, reader: &mut Reader<'_>) -> Result<(),
     form_any(alloc, keys, reader)
 }
 
-/// What stands for an instance behind its name; its tree is kept.
+/// Reads an instance after its name, and keeps its tree.
 pub fn row(alloc: Global, keys: RandomState, reader: &mut Reader<'_>) -> Result<(), TextFault>
     ensures { MatchResult result
         (λ _. TakesRow reader.old reader.new)

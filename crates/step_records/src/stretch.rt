@@ -1,4 +1,4 @@
-//! Literals that stand in a text as the normal text has them.
+//! Literals whose text the normal text has unchanged.
 
 ghost use Rattle.std.specs.Prelude.{
   ◌≡◌,
@@ -21,23 +21,23 @@ ghost use Rattle.std.specs.Prelude.{
 };
 ghost use Rattle.step_structures.specs.Trees.{Tree, group};
 ghost use Rattle.step_records.specs.declared.cell.Cell.{Cell};
-ghost use Rattle.step_records.specs.Building.{Builds, kept_by, tree_of};
+ghost use Rattle.step_records.specs.steps.Building.{Builds, kept_by, tree_of};
 ghost use Rattle.step_records.specs.Cells.{AreInText, IsInText, all_of, is_literal, is_literal_or_list, says_as};
-ghost use Rattle.step_records.specs.Places.{AreStanding, Stands};
+ghost use Rattle.step_records.specs.steps.Places.{AreStanding, Stands};
 
 use crate::cell::{Cell, Kind, Leaf};
 use crate::param::part;
 
-/// Where something stands in a text.
+/// A range of bytes of a text.
 #[derive(Clone, Copy)]
 pub(crate) struct Stretch {
-    /// The place of its first byte.
+    /// The byte offset of the first byte.
     pub(crate) from: u64,
-    /// The place behind its last byte.
+    /// The byte offset after the last byte.
     pub(crate) end: u64,
 }
 
-// Whether a cell is a number, a string or a binary.
+// Whether a cell of this kind is a number, a string or a binary.
 fn is_literal(kind: Kind) -> bool
     ensures { result ≡ is_literal kind }
 {
@@ -47,7 +47,7 @@ fn is_literal(kind: Kind) -> bool
     }
 }
 
-// Where a literal stands.
+// Returns the range of a literal, or `None` for any other cell.
 fn literal_place(text: &[u8], cell: Cell) -> Option<Stretch>
     requires { IsInText text.now cell.kind cell.at cell.len }
     ensures { IfSome result (λ s. (says : ℕ → Tree)
@@ -63,7 +63,7 @@ fn literal_place(text: &[u8], cell: Cell) -> Option<Stretch>
     }
 }
 
-// Whether a stretch is right behind a comma at this place.
+// Whether a range directly follows a comma at byte offset `comma`.
 fn comes_next(text: &[u8], stretch: Stretch, comma: u64) -> bool
     requires within { stretch.from ≤ length text.now }
     requires fits { comma ≤ length text.now }
@@ -73,7 +73,8 @@ fn comes_next(text: &[u8], stretch: Stretch, comma: u64) -> bool
     stretch.from == comma + 1 && text[comma as usize] == b','
 }
 
-// Where cells stand, where each is a literal, and one comma stands between each and the next.
+// Returns the range of these cells, if each is a literal and exactly one comma separates each from
+// the next.
 fn joined(text: &[u8], cells: &[Cell]) -> Option<Stretch>
     requires { AreInText text.now cells.now }
     ensures { IfSome result (λ s. (column : List Cell)
@@ -95,7 +96,7 @@ fn joined(text: &[u8], cells: &[Cell]) -> Option<Stretch>
     Some(all)
 }
 
-// Whether parentheses stand right around a stretch.
+// Whether the bytes directly around a range are parentheses.
 fn has_parentheses(text: &[u8], inside: Stretch) -> bool
     requires before { inside.from ≤ inside.end }
     requires within { inside.end ≤ length text.now }
@@ -110,7 +111,8 @@ fn has_parentheses(text: &[u8], inside: Stretch) -> bool
         && text[inside.end as usize] == b')'
 }
 
-// Where a list stands, where literals are right inside it.
+// Returns the range of the list of these cells, if all are literals and there is no layout between
+// its tokens.
 #[inline(never)]
 fn list_place(text: &[u8], cells: &[Cell]) -> Option<Stretch>
     requires { AreInText text.now cells.now }
@@ -128,7 +130,7 @@ fn list_place(text: &[u8], cells: &[Cell]) -> Option<Stretch>
     }
 }
 
-// Where a literal stands, or a list with literals right inside it.
+// Returns the range of a literal, or of a list of literals without layout.
 fn place(text: &[u8], column: &[Cell], cell: Cell) -> Option<Stretch>
     requires { Builds text.now column.now (cell ∷ []) [] }
     ensures { IfSome result (λ s. Stands text.now (tree_of text.now column.now cell) s.from s.end) }
@@ -139,7 +141,7 @@ fn place(text: &[u8], column: &[Cell], cell: Cell) -> Option<Stretch>
     }
 }
 
-/// Whether a cell is a literal or a list.
+/// Whether a cell of this kind is a literal or a list.
 pub(crate) fn is_literal_or_list(kind: Kind) -> bool
     ensures { result ≡ is_literal_or_list kind }
 {
@@ -149,8 +151,8 @@ pub(crate) fn is_literal_or_list(kind: Kind) -> bool
     }
 }
 
-/// Where cells stand, where each is a literal or a list with literals right inside it, and one comma
-/// stands between each and the next.
+/// Returns the range of these cells, if each is a literal or a list of literals without layout, and
+/// exactly one comma separates each from the next.
 #[inline(never)]
 pub(crate) fn side_by_side(text: &[u8], column: &[Cell], cells: &[Cell]) -> Option<Stretch>
     requires { Builds text.now column.now cells.now [] }
@@ -169,7 +171,7 @@ pub(crate) fn side_by_side(text: &[u8], column: &[Cell], cells: &[Cell]) -> Opti
     Some(all)
 }
 
-/// The bytes of a stretch.
+/// Returns the bytes of a range.
 pub(crate) fn bytes_of<'t>(text: &'t [u8], stretch: Stretch) -> &'t [u8]
     requires before { stretch.from ≤ stretch.end }
     requires within { stretch.end ≤ length text.now }

@@ -1,22 +1,27 @@
 //! The tokens of a text, one at a time.
 
 ghost use Rattle.std.specs.Prelude.{◌≡◌, ◌+◌, ℕ, [], ◌∷◌, MatchResult};
-ghost use Rattle.step_lexis.specs.Reading.{Takes};
+ghost use Rattle.step_lexer.specs.Reading.{Takes};
 ghost use Rattle.step_structures.specs.declared.fault.TextFault.TheVariants.{Fault};
 ghost use Rattle.step_structures.specs.Words.{mark, located};
 ghost use Rattle.step_structures.specs.Trees;
 ghost use Rattle.step_structures.specs.Trees.{this, says};
-ghost use Rattle.step_structures.specs.Predict;
-ghost use Rattle.step_structures.specs.Predict.{Symbol, Just, Say, More, EndOfText, refused};
-ghost use Rattle.step_records.specs.Readers.{reading};
-ghost use Rattle.step_records.specs.Steps.{ParsesWhere, StopsIn, GoesOn};
+ghost use Rattle.step_structures.specs.steps.Predict;
+ghost use Rattle.step_structures.specs.steps.Predict.{Symbol, Just, Say, More, EndOfText, refused};
+ghost use Rattle.step_records.specs.steps.Readers.{reading};
+ghost use Rattle.step_records.specs.steps.Steps.{ParsesWhere, StopsIn, GoesOn};
 
 use crate::reader::Reader;
-use step_lexis::token::{Mark, Sort, Token};
+use step_lexer::token::{Mark, Sort, Token};
 use step_literals::literal::Word;
 use step_structures::fault::{FaultKind, LeftOut, TextFault};
 
-/// The next token, where the text doesn't end.
+/// Returns the next token.
+///
+/// # Errors
+///
+/// - E1 to E5 if there is no token within the limits
+/// - E6 if the text ends
 pub fn take<'a>(reader: &mut Reader<'a>) -> Result<Token<'a>, TextFault>
     ensures { MatchResult result
         (λ t. Takes (reading reader.old) t (reading reader.new)
@@ -36,7 +41,7 @@ pub fn take<'a>(reader: &mut Reader<'a>) -> Result<Token<'a>, TextFault>
     }
 }
 
-/// A fault at a token.
+/// Returns a fault at a token.
 pub fn fault_at(kind: FaultKind, at: Token<'_>) -> TextFault
     ensures { result ≡ Fault kind at.entry.place }
 {
@@ -46,7 +51,7 @@ pub fn fault_at(kind: FaultKind, at: Token<'_>) -> TextFault
     }
 }
 
-/// The fault at a token that can't stand where it stands.
+/// Returns the fault of a token that can't come where it is.
 pub fn refuse(token: Token<'_>) -> TextFault
     ensures { result ≡ Fault (refused (located token.entry).lookahead) token.entry.place }
 {
@@ -64,7 +69,7 @@ pub fn is_said(keyword: Word<'_>, word: &[u8]) -> bool
     keyword.spelling().eq_ignore_ascii_case(word)
 }
 
-/// The number by which the table of what may stand next compares marks.
+/// Returns the number by which the predictive table compares marks.
 fn mark_code(mark: Mark) -> u8
     ensures { result ≡ Predict.mark_code mark }
 {
@@ -79,7 +84,7 @@ fn mark_code(mark: Mark) -> u8
     }
 }
 
-/// Whether a token is this mark.
+/// Whether a token is the mark `wanted`.
 pub fn is_mark(token: Token<'_>, wanted: Mark) -> bool
     ensures { result ≡ Predict.is_mark wanted (located token.entry).lookahead }
 {
@@ -89,7 +94,7 @@ pub fn is_mark(token: Token<'_>, wanted: Mark) -> bool
     }
 }
 
-/// Whether a token is this keyword.
+/// Whether a token is the keyword `word`, whatever the case of its letters.
 pub fn is_word(token: Token<'_>, word: &[u8]) -> bool
     ensures { result ≡ Predict.is_word word.now (located token.entry).lookahead }
 {
@@ -99,7 +104,7 @@ pub fn is_word(token: Token<'_>, word: &[u8]) -> bool
     }
 }
 
-/// Reads this mark, which may stand behind layout.
+/// Reads the mark `wanted`, which may come after layout.
 fn expect_any(reader: &mut Reader<'_>, wanted: Mark) -> Result<(), TextFault>
     ensures { ParsesWhere result (Just wanted ∷ []) (λ _. this (mark wanted) ∷ [])
         (λ _. reader.new.built ≡ reader.old.built) (reading reader.old) (reading reader.new) }
@@ -111,7 +116,7 @@ fn expect_any(reader: &mut Reader<'_>, wanted: Mark) -> Result<(), TextFault>
     Ok(())
 }
 
-/// Reads this mark.
+/// Reads the mark `wanted`.
 pub fn expect(reader: &mut Reader<'_>, wanted: Mark) -> Result<(), TextFault>
     ensures { ParsesWhere result (Just wanted ∷ []) (λ _. this (mark wanted) ∷ [])
         (λ _. reader.new.built ≡ reader.old.built) (reading reader.old) (reading reader.new) }
@@ -122,7 +127,7 @@ pub fn expect(reader: &mut Reader<'_>, wanted: Mark) -> Result<(), TextFault>
     expect_any(reader, wanted)
 }
 
-/// Reads this keyword.
+/// Reads the keyword `word`, whatever the case of its letters.
 pub fn expect_word(reader: &mut Reader<'_>, word: &[u8]) -> Result<(), TextFault>
     ensures { ParsesWhere result (Say word.now ∷ []) (λ _. says word.now ∷ [])
         (λ _. reader.new.built ≡ reader.old.built) (reading reader.old) (reading reader.new) }
@@ -134,8 +139,8 @@ pub fn expect_word(reader: &mut Reader<'_>, word: &[u8]) -> Result<(), TextFault
     Ok(())
 }
 
-/// Reads a comma, or the parenthesis that closes a list; whether it is a comma. Either may stand
-/// behind layout.
+/// Reads a comma, or the parenthesis that closes a list. Returns whether it was a comma. Either may
+/// come after layout.
 fn goes_on_any(reader: &mut Reader<'_>) -> Result<bool, TextFault>
     ensures { MatchResult result
         (λ more. GoesOn more reader.old reader.new)
@@ -151,7 +156,7 @@ fn goes_on_any(reader: &mut Reader<'_>) -> Result<bool, TextFault>
     Ok(true)
 }
 
-/// Reads a comma, or the parenthesis that closes a list; whether it is a comma.
+/// Reads a comma, or the parenthesis that closes a list. Returns whether it was a comma.
 pub fn goes_on(reader: &mut Reader<'_>) -> Result<bool, TextFault>
     ensures { MatchResult result
         (λ more. GoesOn more reader.old reader.new)

@@ -9,18 +9,18 @@ use Rattle.parsing.proofs.Shown.{shows_split}
 use Rattle.parsing.proofs.Ending.{ShowsOne, shown_to_last, BeginsWhole, whole_or_stops}
 use Rattle.step_literals.specs.declared.fault.TextFault.{TextFault}
 use Rattle.step_literals.proofs.CleanLemmas.{begins_split}
-use Rattle.step_lexis.specs.declared.token.Mark.TheVariants.{Semicolon}
-use Rattle.step_lexis.specs.declared.token.Token.{Token}
-use Rattle.step_lexis.specs.Reading.{Reading, Reaches, Takes, Answers, start}
-use Rattle.step_lexis.proofs.Determined.{places_rise}
-use Rattle.step_lexis.proofs.Answered.{answered}
+use Rattle.step_lexer.specs.declared.token.Mark.TheVariants.{Semicolon}
+use Rattle.step_lexer.specs.declared.token.Token.{Token}
+use Rattle.step_lexer.specs.Reading.{Reading, Reaches, Takes, Answers, start}
+use Rattle.step_lexer.proofs.Determined.{places_rise}
+use Rattle.step_lexer.proofs.Answered.{answered}
 use Rattle.step_structures.specs.declared.fault.FaultKind.{FaultKind}
 use Rattle.step_structures.specs.declared.fault.FaultKind.TheVariants as kinds
 use Rattle.step_structures.specs.Words.{ends, mark, Lookahead, token, flawed, end_of_text, LocatedToken, located, located_fault, located_end, Shows, shows_token, shows_fault, shows_end, ShowsAll}
 use Rattle.step_structures.specs.Trees.{File, this, finish, MeetAll, items_of_start, items_of_record, items_of_records, items_of_header, items_of_sections, items_of_end, items_of_file}
 use Rattle.step_structures.specs.Fits.{the_rules, FitsFile}
 use Rattle.step_structures.specs.Texts.{ReadsAs, items_of_opening, HoldsSchema, IsFirstFault, ReadsOrFails}
-use Rattle.step_structures.specs.Predict.{Symbol, file_symbols, table, IsFile}
+use Rattle.step_structures.specs.steps.Predict.{Symbol, file_symbols, table, IsFile}
 use Rattle.step_structures.proofs.Meeting.{meet_as, meet_split, meets_this, meets_finish, one_more}
 use Rattle.step_structures.proofs.Passing.{pass_file}
 use Rattle.step_structures.proofs.Forms.{Little}

@@ -13,9 +13,9 @@ use Rattle.step_structures.specs.declared.fault.LeftOut.{LeftOut}
 use Rattle.step_structures.specs.declared.fault.LeftOut.TheVariants as left_out
 use Rattle.step_structures.specs.Words.{keyword, user_defined, scope, Lookahead, token, flawed, LocatedToken}
 use Rattle.step_structures.specs.Trees.{is_said}
-use Rattle.step_structures.specs.Fits.{Rules, the_rules}
+use Rattle.step_structures.specs.Fits.{StructureRules, the_rules}
 use Rattle.step_structures.specs.Texts.{HoldsSchema, IsViablePrefix, EndsFile, IsWord, IsBetween, IsLeftOut, more_levels, more_parts, repeated, unheaded, FaultApplies, IsKind}
-use Rattle.step_structures.specs.Predict.{Symbol, EndOfText, Next, refused, next, section_kind, file_symbols, table, IsFile}
+use Rattle.step_structures.specs.steps.Predict.{Symbol, EndOfText, Next, refused, next, section_kind, file_symbols, table, IsFile}
 use Rattle.step_structures.proofs.Meeting.{one_more}
 use Rattle.step_structures.proofs.Looser.{IsLooser, levels_looser, parts_looser, repeated_looser, unheaded_looser}
 use Rattle.step_structures.proofs.Forms.{Little, IsBehindSections}
@@ -196,20 +196,20 @@ module _ (before : List LocatedToken) (at : LocatedToken) (top : Symbol) (others
       (reaches_keeps table (Little the_rules) (complete the_rules (omega arith) (omega arith)) before
       file_symbols (top ∷ others) (starts the_rules) reached).0 e
 
-  -- with it they are a front where looser rules let it stand ..
-  pub can : (w : Rules) → IsLooser the_rules w → Can w top s → languages.IsViablePrefix (IsFile w) (ws ++ s ∷ [])
+  -- with it they are a front where looser rules let it stand
+  pub can : (w : StructureRules) → IsLooser the_rules w → Can w top s → languages.IsViablePrefix (IsFile w) (ws ++ s ∷ [])
   can w l c = subst (languages.IsViablePrefix (IsFile w)) (one_more before at) ((goes_on_wider table (next w)
       (wider the_rules w l) (Little w) file_symbols (IsFile w)
       (exact w (omega (arith, l.levels)) (omega (arith, l.sections))) before at top others
       reached).0 c)
 
-  -- .. and only there
-  could : (w : Rules) → IsLooser the_rules w → IsViablePrefix w (ws ++ s ∷ []) → Can w top s
+  -- if looser rules make the tokens a prefix, they let the token come next
+  could : (w : StructureRules) → IsLooser the_rules w → IsViablePrefix w (ws ++ s ∷ []) → Can w top s
   could w l v = (goes_on_wider table (next w) (wider the_rules w l) (Little w) file_symbols (IsFile w)
       (exact w (omega (arith, l.levels)) (omega (arith, l.sections))) before at top others reached).1
       (subst (languages.IsViablePrefix (IsFile w)) (sym (one_more before at)) (of_front w (ws ++ s ∷ []) v))
 
-  holds_at : (w : Rules) → IsLooser the_rules w → NoSemicolon s → HoldsSchema w (ws ++ s ∷ [])
+  holds_at : (w : StructureRules) → IsLooser the_rules w → NoSemicolon s → HoldsSchema w (ws ++ s ∷ [])
   holds_at w l o = holds_behind the_rules w l viable.file ws viable.rest s viable.fits viable.tokens viable.schema o
 
   is_between : IsBehindSections top → IsBetween ws
@@ -278,7 +278,7 @@ module _ (before : List LocatedToken) (at : LocatedToken) (top : Symbol) (others
   left_told left_out.TooMany n h = absurd (n refl)
   left_told left_out.TooLarge n h = absurd (due_large ws s h)
 
-  -- .. and no other is, but that another token is expected
+  -- no other kind of fault applies than the one that the table reports, except Expected
   pub only_due : (k : FaultKind) → table top s ≡ Err k → (other : FaultKind) → (other ≡ kinds.Expected → ⊥)
       → FaultApplies ws s other → k ≡ other
   only_due k e (kinds.Token f) n h = same_err (table top s) k (kinds.Token f) e (ap (table top) h
@@ -294,7 +294,7 @@ module _ (before : List LocatedToken) (at : LocatedToken) (top : Symbol) (others
       (could more_parts parts_looser h)
   only_due k e (kinds.LeftOut part) n h = same_err (table top s) k (kinds.LeftOut part) e (left_told part (λ d. cc) h)
 
-  -- so it is the fault's ..
+  -- so it is the fault's
   pub kind_of : (k : FaultKind) → table top s ≡ Err k → IsKind ws s k
   kind_of (kinds.Token f) e = is_due (kinds.Token f) e
   kind_of (kinds.LeftOut part) e = is_due (kinds.LeftOut part) e
@@ -303,7 +303,7 @@ module _ (before : List LocatedToken) (at : LocatedToken) (top : Symbol) (others
   kind_of kinds.HeaderFault e = is_due kinds.HeaderFault e
   kind_of kinds.Expected e = λ other n h. n (sym (only_due kinds.Expected e other n h))
 
-  -- .. and no other is
+  -- the fault's kind is the one that the table reports
   pub kind_is : (k other : FaultKind) → table top s ≡ Err k → IsKind ws s other → k ≡ other
   kind_is k (kinds.Token f) e h = only_due k e (kinds.Token f) (λ d. cc) h
   kind_is k (kinds.LeftOut part) e h = only_due k e (kinds.LeftOut part) (λ d. cc) h

@@ -9,15 +9,15 @@ use Rattle.parsing.proofs.Running.{Wants, wants}
 use Rattle.parsing.proofs.Faults as table_faults
 use Rattle.parsing.proofs.Shown.{shows_join, shows_one}
 use Rattle.parsing.proofs.Texts as texts
-use Rattle.step_lexis.specs.declared.token.Mark.TheVariants.{Semicolon}
-use Rattle.step_lexis.specs.Reading.{Reading, start}
+use Rattle.step_lexer.specs.declared.token.Mark.TheVariants.{Semicolon}
+use Rattle.step_lexer.specs.Reading.{Reading, start}
 use Rattle.step_structures.specs.declared.fault.FaultKind.{FaultKind}
 use Rattle.step_structures.specs.declared.fault.FaultKind.TheVariants as kinds
 use Rattle.step_structures.specs.Words.{mark, Lookahead, token, LocatedToken, Shows, ShowsAll}
 use Rattle.step_structures.specs.Trees.{Record, this, MeetAll, items_of_record, items_of_records, items_of_start}
 use Rattle.step_structures.specs.Fits.{the_rules, FitsRecords, IsHeader, NamesSchema}
 use Rattle.step_structures.specs.Texts.{items_of_opening, HoldsSchema, IsViablePrefix, IsKind, IsPlace, own_place, place_of_schema, unheaded, IsFirstFault, FaultsOnce}
-use Rattle.step_structures.specs.Predict.{Symbol, Just, Records, next, opening_symbols, data_symbols, file_symbols, table, IsFile}
+use Rattle.step_structures.specs.steps.Predict.{Symbol, Just, Records, next, opening_symbols, data_symbols, file_symbols, table, IsFile}
 use Rattle.step_structures.proofs.Meeting.{located_join, meet_split, meets_is, one_more}
 use Rattle.step_structures.proofs.Shown.{shown_once}
 use Rattle.step_structures.proofs.Passing.{two_symbols, pass_here, pass_two, pass_opening, pass_opened}
@@ -186,7 +186,7 @@ same_key a b m n key other p q x y f g h k e =
     (sym (lookaheads_append a (key ∷ m)) ∙ ap lookaheads e ∙ lookaheads_append b (other ∷ n)) in
     same_next a b m n key other same.0 e
 
--- .. and one place
+-- a fault has one byte offset
 one_place : (before : List LocatedToken) (at : LocatedToken) (kind : FaultKind) (p q : ℕ) → IsPlace before at kind p
     → IsPlace before at kind q → p ≡ q
 one_place before at kind p q (own_place n e) (own_place m d) = e ∙ sym d

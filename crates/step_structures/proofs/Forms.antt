@@ -1,15 +1,15 @@
 -- On what the next symbols depend: mostly on no rule, else on one test.
 use Rattle.std.proofs.Common.{◌≡◌, ℕ, ◌+◌, ◌≤◌, nat_lt, suc, zero, Bool, true, false, not, ◌&&◌, if◌then◌else◌, List, [], ◌∷◌, ◌++◌, length, Ok, Err, refl, ◌⊎◌, inl, inr, codes}
-use Rattle.step_lexis.specs.declared.token.Mark.{Mark}
-use Rattle.step_lexis.specs.declared.token.Mark.TheVariants.{Open, Close, Comma, Semicolon, Dollar, Asterisk}
+use Rattle.step_lexer.specs.declared.token.Mark.{Mark}
+use Rattle.step_lexer.specs.declared.token.Mark.TheVariants.{Open, Close, Comma, Semicolon, Dollar, Asterisk}
 use Rattle.step_structures.specs.declared.fault.FaultKind.{FaultKind}
 use Rattle.step_structures.specs.declared.fault.FaultKind.TheVariants as kinds
 use Rattle.step_structures.specs.declared.fault.LeftOut.TheVariants as left_out
 use Rattle.step_structures.specs.Words.{begins, ends, keyword, user_defined, scope, name, number, element, string, binary, mark, Lookahead, token, flawed, end_of_text}
 use Rattle.step_structures.specs.Trees.{is_said}
-use Rattle.step_structures.specs.Fits.{Rules, has_name, has_keyword}
+use Rattle.step_structures.specs.Fits.{StructureRules, has_name, has_keyword}
 use Rattle.step_structures.specs.Texts.{IsWord}
-use Rattle.step_structures.specs.Predict.{Symbol, Just, Start, Say, Head, Records, Ended, Sections, Behind, Quoted, Rows, Body, PartialRecords, Value, Items, More, EndOfText, refused, Next, is_mark, next, next_start, next_say, next_records, next_ended, next_end, next_behind, next_quoted, next_body, next_close, next_more, next_end_of_text, then_more, section_kind, record_symbols, row_symbols}
+use Rattle.step_structures.specs.steps.Predict.{Symbol, Just, Start, Say, Head, Records, Ended, Sections, Behind, Quoted, Rows, Body, PartialRecords, Value, Items, More, EndOfText, refused, Next, is_mark, next, next_start, next_say, next_records, next_ended, next_end, next_behind, next_quoted, next_body, next_close, next_more, next_end_of_text, then_more, section_kind, record_symbols, row_symbols}
 
 -- another data section may come, or the end of the file
 abbrev pub IsBehindSections : Symbol → Type 0
@@ -37,7 +37,7 @@ told_refused y (token scope) = refl
 told_refused y _ = tt
 
 -- no more levels, instances and sections than may be
-abbrev pub Little : Rules → Symbol → Type 0
+abbrev pub Little : StructureRules → Symbol → Type 0
 Little rules (Value n) = n ≤ rules.levels
 Little rules (Items n) = n ≤ rules.levels
 Little rules (More n) = n ≤ rules.levels
@@ -45,8 +45,8 @@ Little rules (Sections k names) = (k ≤ rules.sections) × (length names ≤ ru
 Little rules (Rows k names) = (k ≤ rules.sections) × (length names ≤ rules.instances)
 Little rules _ = Unit {0}
 
--- .. and no symbol for what stands up to the end of the file
-abbrev pub Small : Rules → Symbol → Type 0
+-- a symbol within the limits that doesn't go on to the end of the file
+abbrev pub Small : StructureRules → Symbol → Type 0
 Small rules (Sections k names) = ⊥
 Small rules (Rows k names) = ⊥
 Small rules EndOfText = ⊥
@@ -54,23 +54,23 @@ Small rules y = Little rules y
 
 -- by which test, if any, the rules decide what is next
 pub data Form (y : Symbol) (s : Lookahead) : Type 0 where
-  fixed : (v : Next) → ((w : Rules) → next w y s ≡ v) → ToldBy y s v → Form y s
-  by_level : (n : ℕ) (zs : List Symbol) → ((w : Rules)
+  fixed : (v : Next) → ((w : StructureRules) → next w y s ≡ v) → ToldBy y s v → Form y s
+  by_level : (n : ℕ) (zs : List Symbol) → ((w : StructureRules)
       → next w y s ≡ (if nat_lt n w.levels then Ok zs else Err kinds.TooDeep))
-      → ((w : Rules) → Little w y → n ≤ w.levels) → (s ≡ token (mark Semicolon) → ⊥) → Form y s
-  by_section : (n : ℕ) (zs : List Symbol) → ((w : Rules)
+      → ((w : StructureRules) → Little w y → n ≤ w.levels) → (s ≡ token (mark Semicolon) → ⊥) → Form y s
+  by_section : (n : ℕ) (zs : List Symbol) → ((w : StructureRules)
       → next w y s ≡ (if nat_lt n w.sections then Ok zs else Err (kinds.LeftOut left_out.TooMany)))
-      → ((w : Rules) → Little w y → n ≤ w.sections) → (s ≡ token (mark Semicolon) → ⊥) → Form y s
+      → ((w : StructureRules) → Little w y → n ≤ w.sections) → (s ≡ token (mark Semicolon) → ⊥) → Form y s
   by_head : (b : Bool) (zs : List Symbol)
-      → ((w : Rules) → next w y s ≡ (if w.headed && b then Err kinds.HeaderFault else Ok zs))
+      → ((w : StructureRules) → next w y s ≡ (if w.headed && b then Err kinds.HeaderFault else Ok zs))
       → (s ≡ token (mark Semicolon) → ⊥) → Form y s
   by_keyword : (b : Bool) (zs : List Symbol)
-      → ((w : Rules) → next w y s ≡ (if w.distinct && b then Err kinds.DuplicateName else Ok zs))
+      → ((w : StructureRules) → next w y s ≡ (if w.distinct && b then Err kinds.DuplicateName else Ok zs))
       → (s ≡ token (mark Semicolon) → ⊥) → Form y s
   by_name : (b : Bool) (n : ℕ) (zs : List Symbol)
-      → ((w : Rules) → next w y s ≡ (if w.distinct && b then Err kinds.DuplicateName else
+      → ((w : StructureRules) → next w y s ≡ (if w.distinct && b then Err kinds.DuplicateName else
       (if nat_lt n w.instances then Ok zs else Err (kinds.LeftOut left_out.TooMany))))
-      → ((w : Rules) → Little w y → n ≤ w.instances) → (s ≡ token (mark Semicolon) → ⊥) → Form y s
+      → ((w : StructureRules) → Little w y → n ≤ w.instances) → (s ≡ token (mark Semicolon) → ⊥) → Form y s
 
 told_just : (m : Mark) (s : Lookahead) (b : Bool) → ToldBy (Just m) s (if b then Ok [] else Err (refused s))
 told_just m s true = tt

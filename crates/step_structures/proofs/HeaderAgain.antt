@@ -2,16 +2,16 @@
 use Rattle.std.proofs.Common.{◌≡◌, ℕ, ◌+◌, ◌-◌, ◌≤◌, List, [], ◌∷◌, ◌++◌, length, take, drop, refl, sym, ap, ◌∙◌, subst, arith, length-append, append_assoc, Some, None, codes, false, nat_eq}
 use Rattle.std.proofs.lemmas.Bool.Decides.{nat_tests}
 use Rattle.parsing.specs.Tables.{lookaheads}
-use Rattle.step_lexis.specs.declared.token.Token.{Token}
+use Rattle.step_lexer.specs.declared.token.Token.{Token}
 use Rattle.step_literals.specs.Tokens.{IsNext}
-use Rattle.step_lexis.specs.Front.{kind_of}
-use Rattle.step_lexis.specs.Layout.{NoBlank}
-use Rattle.step_lexis.specs.Reading.{Reading, Takes, Reaches, start, start_of, left}
+use Rattle.step_lexer.specs.Front.{kind_of}
+use Rattle.step_lexer.specs.Layout.{NoBlank}
+use Rattle.step_lexer.specs.Reading.{Reading, Takes, Reaches, start, start_of, left}
 use Rattle.step_literals.proofs.Runs.{front_back}
 use Rattle.step_literals.proofs.Longest.{Group, group, group_at, group_of, first_group}
-use Rattle.step_lexis.proofs.Closers.{next_kept, no_blank_at_token}
-use Rattle.step_lexis.proofs.Determined.{same_place}
-use Rattle.step_lexis.proofs.Standing.{Stands, stands, whole, token_at, takes}
+use Rattle.step_lexer.proofs.Closers.{next_kept, no_blank_at_token}
+use Rattle.step_lexer.proofs.Determined.{same_place}
+use Rattle.step_lexer.proofs.Standing.{Stands, stands, whole, token_at, takes}
 use Rattle.step_structures.specs.Words.{begins, word_of, LocatedToken, located, Shows, shows_token, shows_fault, shows_end, ShowsAll}
 use Rattle.step_structures.specs.Trees.{Item, this, says, Meets, MeetAll, Record, File, items_of_records, items_of_header}
 use Rattle.step_structures.specs.Texts.{Reads, ReadsAs}

@@ -1,16 +1,16 @@
 -- The tokens up to a semicolon are the same whatever stands behind it.
 use Rattle.std.proofs.Common.{◌≡◌, ℕ, ◌+◌, ◌≤◌, List, [], ◌∷◌, ◌++◌, length, drop, refl, sym, ap, ◌∙◌, subst, arith, length-drop, length-append, append_assoc}
 use Rattle.parsing.specs.Tables.{lookaheads}
-use Rattle.step_lexis.specs.declared.token.Mark.TheVariants.{Semicolon}
-use Rattle.step_lexis.specs.declared.token.Sort.{Sort}
-use Rattle.step_lexis.specs.declared.token.Sort.TheVariants as sorts
+use Rattle.step_lexer.specs.declared.token.Mark.TheVariants.{Semicolon}
+use Rattle.step_lexer.specs.declared.token.Sort.{Sort}
+use Rattle.step_lexer.specs.declared.token.Sort.TheVariants as sorts
 use Rattle.step_literals.specs.declared.fault.Flaw.{Flaw}
 use Rattle.step_literals.specs.Tokens.{IsNext}
-use Rattle.step_lexis.specs.Front.{kind_of, mark_byte, HasValue}
-use Rattle.step_lexis.specs.Reading.{Reading, left}
-use Rattle.step_lexis.proofs.Closers.{next_kept}
-use Rattle.step_lexis.proofs.FrontLemmas.{next_mark}
-use Rattle.step_lexis.proofs.Standing.{Stands, stands, stands_before, token_at, takes}
+use Rattle.step_lexer.specs.Front.{kind_of, mark_byte, HasValue}
+use Rattle.step_lexer.specs.Reading.{Reading, left}
+use Rattle.step_lexer.proofs.Closers.{next_kept}
+use Rattle.step_lexer.proofs.FrontLemmas.{next_mark}
+use Rattle.step_lexer.proofs.Standing.{Stands, stands, stands_before, token_at, takes}
 use Rattle.step_structures.specs.Words.{mark, word_of, flawed, LocatedToken, located, Shows, shows_token, shows_fault, shows_end, ShowsAll}
 use Rattle.step_structures.specs.Trees.{Item, this, says, named, finish, Meets, MeetAll}
 

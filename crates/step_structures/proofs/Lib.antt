@@ -23,3 +23,8 @@ pub mod PlainLemmas
 pub mod NormalLemmas
 pub mod NormalReads
 pub mod Named
+pub mod LedSpelt
+pub mod LedFits
+pub mod MergedReads
+pub mod Unmerged
+pub mod Bounded

@@ -1,11 +1,11 @@
 -- What fits some rules fits looser ones.
 use Rattle.std.proofs.Common.{◌≡◌, ℕ, ◌+◌, ◌≤◌, Bool, true, false, List, [], ◌∷◌, ◌++◌, refl, arith}
-use Rattle.step_structures.specs.Trees.{Tree, leaf, typed, group, Trees, none, one, Record, Form, internal, external, Row}
-use Rattle.step_structures.specs.Fits.{Rules, the_rules, FitsTree, FitsTrees, FitsRecord, FitsPartialRecords, FitsForm, FitsRows, FitsRecords, FitsHeader, IsHeader, Where, has_keyword, has_name}
+use Rattle.step_structures.specs.Trees.{Tree, leaf, typed, group, Trees, none, one, Record, Form, internal, external, ExchangeRow}
+use Rattle.step_structures.specs.Fits.{StructureRules, the_rules, FitsTree, FitsTrees, FitsRecord, FitsPartialRecords, FitsForm, FitsRows, FitsRecords, FitsHeader, IsHeader, Where, has_keyword, has_name}
 use Rattle.step_structures.specs.Texts.{more_levels, more_parts, repeated, unheaded}
 
 -- these rules ask for less
-pub record IsLooser (a b : Rules) : Type 0 where
+pub record IsLooser (a b : StructureRules) : Type 0 where
   pub levels : a.levels ≤ b.levels
   pub instances : a.instances ≤ b.instances
   pub sections : a.sections ≤ b.sections
@@ -18,7 +18,7 @@ where_looser A true false f h = tt
 where_looser A false true f h = (let e : true ≡ false = f refl in absurd cc)
 where_looser A false false f h = tt
 
-module _ (a b : Rules) (l : IsLooser a b) where
+module _ (a b : StructureRules) (l : IsLooser a b) where
   mutual
     pub looser_tree : (x : Tree) (n : ℕ) → FitsTree a n x → FitsTree b n x
     looser_tree (leaf w) n h = h
@@ -46,7 +46,7 @@ module _ (a b : Rules) (l : IsLooser a b) where
   looser_form (internal p) h = looser_record p 0 h
   looser_form (external ps) h = (omega (arith, h.0, l.levels), h.1, looser_partial_records ps [] h.2)
 
-  pub looser_rows : (rs : List Row) (before : List ℕ) → FitsRows a before rs → FitsRows b before rs
+  pub looser_rows : (rs : List ExchangeRow) (before : List ℕ) → FitsRows a before rs → FitsRows b before rs
   looser_rows [] before h = tt
   looser_rows (r ∷ rs) before h = (
     where_looser (has_name r.name before ≡ false) a.distinct b.distinct l.distinct h.0,

@@ -3,11 +3,11 @@ use Rattle.std.specs.Prelude.{◌≡◌, ℕ, ◌==◌, ◌||◌, Bool, true, fa
 use Rattle.std.specs.List.{IsDistinct, AllByRecursion}
 use Rattle.std.proofs.Common.{refl, sym, ap, ◌∙◌, eqb-true, eq-eqb}
 use Rattle.std.proofs.lemmas.Bool.{or_parts}
-use Rattle.step_structures.specs.Trees.{Row}
+use Rattle.step_structures.specs.Trees.{ExchangeRow}
 use Rattle.step_structures.specs.Fits.{the_rules, FitsRows, has_name}
 
-abbrev names_in : List Row → List ℕ
-names_in rows = map (λ (r : Row). r.name) rows
+abbrev names_in : List ExchangeRow → List ℕ
+names_in rows = map (λ (r : ExchangeRow). r.name) rows
 
 turned : (a b : ℕ) → (a == b) ≡ false → (b == a) ≡ false
 turned a b e = by (b == a) refl
@@ -24,7 +24,7 @@ has_last n m (x ∷ xs) e =
     (ap (λ b. b || has_name n xs) parts.0 ∙ rest.0, rest.1)
 
 -- no later name is one of those before
-none_before : (before : List ℕ) (rs : List Row) (n : ℕ) → ((m : ℕ) → has_name m before ≡ false → (m == n) ≡ false)
+none_before : (before : List ℕ) (rs : List ExchangeRow) (n : ℕ) → ((m : ℕ) → has_name m before ≡ false → (m == n) ≡ false)
     → FitsRows the_rules before rs → AllByRecursion (λ y. (n == y) ≡ false) (names_in rs)
 none_before before [] n f h = tt
 none_before before (r ∷ rs) n f h = (
@@ -33,8 +33,8 @@ none_before before (r ∷ rs) n f h = (
 )
 
 -- no name stands twice
-pub rows_distinct : (before : List ℕ) (rs : List Row) → FitsRows the_rules before rs
-    → IsDistinct (◌==◌) (map (λ (r : Row). r.name) rs)
+pub rows_distinct : (before : List ℕ) (rs : List ExchangeRow) → FitsRows the_rules before rs
+    → IsDistinct (◌==◌) (map (λ (r : ExchangeRow). r.name) rs)
 unfolding IsDistinct
 rows_distinct before [] h = tt
 rows_distinct before (r ∷ rs) h = (

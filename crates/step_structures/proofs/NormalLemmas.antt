@@ -3,10 +3,10 @@ use Rattle.std.proofs.Common.{◌≡◌, ℕ, ◌+◌, false, ◌||◌, List, []
 use Rattle.std.specs.Str.{bytes_eq}
 use Rattle.std.proofs.lemmas.List.{map-append, length-map}
 use Rattle.std.proofs.lemmas.Str.Ascii.{uppercase-uppercase}
-use Rattle.step_lexis.specs.declared.token.Mark.TheVariants.{Open, Close, Comma, Semicolon, Equals, Dollar, Asterisk}
+use Rattle.step_lexer.specs.declared.token.Mark.TheVariants.{Open, Close, Comma, Semicolon, Equals, Dollar, Asterisk}
 use Rattle.step_structures.specs.Words.{Word, keyword, user_defined, name, number, element, string, binary, mark}
-use Rattle.step_structures.specs.Trees.{Tree, leaf, typed, group, Trees, none, one, Record, Form, internal, external, Row, Section, rows_of, Item, this, says, named, is_said, items_of_tree, items_of_trees, items_of_more, items_of_record, items_of_partial_records, items_of_form, items_of_row, items_of_rows, items_of_heading, items_of_section, items_of_sections, items_of_end, section}
-use Rattle.step_structures.specs.Fits.{Rules, IsLeaf, FitsTree, FitsTrees, FitsRecord, FitsPartialRecords, FitsForm, FitsRows, FitsSections, Where, has_keyword}
+use Rattle.step_structures.specs.Trees.{Tree, leaf, typed, group, Trees, none, one, Record, Form, internal, external, ExchangeRow, Section, rows_of, Item, this, says, named, is_said, items_of_tree, items_of_trees, items_of_more, items_of_record, items_of_partial_records, items_of_form, items_of_row, items_of_rows, items_of_heading, items_of_section, items_of_sections, items_of_end, section}
+use Rattle.step_structures.specs.Fits.{StructureRules, IsLeaf, FitsTree, FitsTrees, FitsRecord, FitsPartialRecords, FitsForm, FitsRows, FitsSections, Where, has_keyword}
 use Rattle.step_literals.specs.Words.{upper}
 use Rattle.step_structures.specs.Normal.{plain_word, plain_name, plain_tree, plain_trees, plain_more, plain_record, plain_partial_records, plain_form, plain_rows, plain_heading, plain_sections, normal_word, normal_tree, normal_trees, normal_record, normal_form, normal_row, normal_rows, normal_section, normal_sections, NormalStays}
 use Rattle.step_structures.proofs.Spelling.{lower_upper}
@@ -50,11 +50,11 @@ form_items (internal p) = record_items p
 form_items (external ps) = ap (λ l. this (mark Open) ∷ l) (both_normal (items_of_partial_records ps) (this (mark Close)
     ∷ []) _ _ (partial_records_items ps) refl)
 
-row_items : (r : Row) → items_of_row (normal_row r) ≡ normals (items_of_row r)
+row_items : (r : ExchangeRow) → items_of_row (normal_row r) ≡ normals (items_of_row r)
 row_items r = ap (λ l. named r.name ∷ this (mark Equals) ∷ l) (both_normal (items_of_form r.form) (this (mark Semicolon)
     ∷ []) _ _ (form_items r.form) refl)
 
-rows_items : (rs : List Row) → items_of_rows (normal_rows rs) ≡ normals (items_of_rows rs)
+rows_items : (rs : List ExchangeRow) → items_of_rows (normal_rows rs) ≡ normals (items_of_rows rs)
 rows_items [] = refl
 rows_items (r ∷ rs) = both_normal (items_of_row r) (items_of_rows rs) _ _ (row_items r) (rows_items rs)
 
@@ -90,7 +90,7 @@ leaf_normal (string text) h = tt
 leaf_normal (binary text) h = tt
 leaf_normal _ h = absurd h
 
-module _ (rules : Rules) where
+module _ (rules : StructureRules) where
   mutual
     tree_fits : (n : ℕ) (x : Tree) → FitsTree rules n x → FitsTree rules n (normal_tree x)
     tree_fits n (leaf w) h = leaf_normal w h
@@ -126,7 +126,7 @@ module _ (rules : Rules) where
   form_fits (external ps) h = (h.0, rw length-map h.1, partial_records_fit [] ps h.2)
 
   -- what fits fits as the normal text says it
-  pub rows_fit : (before : List ℕ) (rs : List Row) → FitsRows rules before rs → FitsRows rules before (normal_rows rs)
+  pub rows_fit : (before : List ℕ) (rs : List ExchangeRow) → FitsRows rules before rs → FitsRows rules before (normal_rows rs)
   rows_fit before [] h = tt
   rows_fit before (r ∷ rs) h = (h.0, h.1, form_fits r.form h.2, rows_fit (before ++ r.name ∷ []) rs h.3)
 
@@ -135,7 +135,7 @@ rows_normal [] = refl
 rows_normal (x ∷ xs) = ap (λ l. normal_rows x.rows ++ l) (rows_normal xs) ∙ sym (map-append normal_row x.rows
     (rows_of xs))
 
-pub sections_fit : (rules : Rules) (xs : List Section) → FitsSections rules xs → FitsSections rules (normal_sections xs)
+pub sections_fit : (rules : StructureRules) (xs : List Section) → FitsSections rules xs → FitsSections rules (normal_sections xs)
 sections_fit rules xs h = (
   rw length-map h.0,
   rw length-map h.1,
@@ -177,7 +177,7 @@ form_stays : (f : Form) → plain_form (normal_form f) ≡ plain_form f
 form_stays (internal p) = record_stays p
 form_stays (external ps) = λ i. codes "(" ++ partial_records_stay ps i ++ codes ")"
 
-rows_stay : (rs : List Row) → plain_rows (normal_rows rs) ≡ plain_rows rs
+rows_stay : (rs : List ExchangeRow) → plain_rows (normal_rows rs) ≡ plain_rows rs
 rows_stay [] = refl
 rows_stay (r ∷ rs) = λ i. (plain_name r.name ++ codes "=" ++ form_stays r.form i ++ codes ";\n") ++ rows_stay rs i
 

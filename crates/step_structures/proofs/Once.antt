@@ -5,13 +5,13 @@ use Rattle.parsing.proofs.Lists.{lookaheads_append}
 use Rattle.parsing.proofs.Faults as table_faults
 use Rattle.parsing.proofs.Shown.{shows_join}
 use Rattle.parsing.proofs.Texts as texts
-use Rattle.step_lexis.specs.Reading.{Reading, start}
-use Rattle.step_lexis.proofs.Determined.{same_place}
+use Rattle.step_lexer.specs.Reading.{Reading, start}
+use Rattle.step_lexer.proofs.Determined.{same_place}
 use Rattle.step_structures.specs.Words.{Lookahead, LocatedToken, Shows, ShowsAll}
 use Rattle.step_structures.specs.Trees.{MeetAll, items_of_header, items_of_sections, items_of_end, items_of_file}
 use Rattle.step_structures.specs.Fits.{the_rules}
 use Rattle.step_structures.specs.Texts.{ReadsOnce, ReadsWithoutFault}
-use Rattle.step_structures.specs.Predict.{header_symbols, data_symbols, file_symbols, table, IsFile}
+use Rattle.step_structures.specs.steps.Predict.{header_symbols, data_symbols, file_symbols, table, IsFile}
 use Rattle.step_structures.proofs.Meeting.{located_join, meet_as}
 use Rattle.step_structures.proofs.Shown.{shown_once}
 use Rattle.step_structures.proofs.Passing.{pass_header, pass_rest}

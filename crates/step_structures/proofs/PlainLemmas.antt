@@ -1,11 +1,11 @@
 -- The normal text is written word by word.
 use Rattle.std.proofs.Common.{◌≡◌, ℕ, List, [], ◌∷◌, ◌++◌, Option, Some, None, refl, sym, subst, inl, inr, codes, append_assoc, true}
-use Rattle.step_lexis.specs.declared.token.Mark.TheVariants.{Open, Close, Comma, Semicolon, Equals}
-use Rattle.step_lexis.specs.declared.token.Mark.{Mark}
-use Rattle.step_lexis.specs.Front.{mark_byte}
-use Rattle.step_lexis.proofs.Closers.{is_closer}
+use Rattle.step_lexer.specs.declared.token.Mark.TheVariants.{Open, Close, Comma, Semicolon, Equals}
+use Rattle.step_lexer.specs.declared.token.Mark.{Mark}
+use Rattle.step_lexer.specs.Front.{mark_byte}
+use Rattle.step_lexer.proofs.Closers.{is_closer}
 use Rattle.step_structures.specs.Words.{Word, keyword, string, mark}
-use Rattle.step_structures.specs.Trees.{Tree, leaf, typed, group, Trees, none, one, Record, Form, internal, external, Row, Section, Item, this, says, named, finish, items_of_tree, items_of_trees, items_of_more, items_of_record, items_of_partial_records, items_of_form, items_of_row, items_of_rows, items_of_heading, items_of_section, items_of_sections, items_of_end, section}
+use Rattle.step_structures.specs.Trees.{Tree, leaf, typed, group, Trees, none, one, Record, Form, internal, external, ExchangeRow, Section, Item, this, says, named, finish, items_of_tree, items_of_trees, items_of_more, items_of_record, items_of_partial_records, items_of_form, items_of_row, items_of_rows, items_of_heading, items_of_section, items_of_sections, items_of_end, section}
 use Rattle.step_literals.specs.Words.{upper}
 use Rattle.step_structures.specs.Normal.{plain_word, plain_name, plain_tree, plain_trees, plain_more, plain_record, plain_partial_records, plain_form, plain_row, plain_rows, plain_heading, plain_section, plain_sections}
 use Rattle.step_structures.proofs.Written.{Written, StartsClosed, follows_word}
@@ -107,7 +107,7 @@ name_written : (n : ℕ) (is : List Item) (t : List ℕ) → StartsClosed t → 
 unfolding Text
 name_written n is t c h = (10 ∷ [], t, inr refl, h, (c, refl))
 
-row_written : (r : Row) (is : List Item) (t : List ℕ) → Text is (10 ∷ t) → Text (items_of_row r ++ is)
+row_written : (r : ExchangeRow) (is : List Item) (t : List ℕ) → Text is (10 ∷ t) → Text (items_of_row r ++ is)
     (10 ∷ (plain_row r ++ t))
 row_written r is t h =
     same _ (named r.name ∷ this (mark Equals) ∷ (items_of_form r.form ++ this (mark Semicolon) ∷ is)) _
@@ -115,7 +115,7 @@ row_written r is t h =
     (name_written r.name _ _ (closed 61 _ refl)
     (mark_written Equals _ _ (form_written r.form _ _ (mark_written Semicolon is (10 ∷ t) h))))
 
-rows_written : (rs : List Row) (is : List Item) (t : List ℕ) → Text is (10 ∷ t) → Text (items_of_rows rs ++ is)
+rows_written : (rs : List ExchangeRow) (is : List Item) (t : List ℕ) → Text is (10 ∷ t) → Text (items_of_rows rs ++ is)
     (10 ∷ (plain_rows rs ++ t))
 rows_written [] is t h = h
 rows_written (r ∷ rs) is t h = same _ (items_of_row r ++ (items_of_rows rs ++ is)) _

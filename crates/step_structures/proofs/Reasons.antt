@@ -1,17 +1,17 @@
 -- Why something can't be next: which of the rules rules it out, if any does.
 use Rattle.std.proofs.Common.{◌≡◌, ℕ, ◌+◌, ◌≤◌, nat_lt, Bool, true, false, ◌&&◌, if◌then◌else◌, List, Ok, Err, refl, sym, ◌∙◌, subst, arith}
-use Rattle.step_lexis.specs.declared.token.Mark.TheVariants.{Semicolon}
+use Rattle.step_lexer.specs.declared.token.Mark.TheVariants.{Semicolon}
 use Rattle.step_structures.specs.declared.fault.FaultKind.{FaultKind}
 use Rattle.step_structures.specs.declared.fault.FaultKind.TheVariants as kinds
 use Rattle.step_structures.specs.declared.fault.LeftOut.TheVariants as left_out
 use Rattle.step_structures.specs.Words.{mark, Lookahead, token}
-use Rattle.step_structures.specs.Fits.{Rules, the_rules}
+use Rattle.step_structures.specs.Fits.{StructureRules, the_rules}
 use Rattle.step_structures.specs.Texts.{more_levels, more_parts, repeated, unheaded}
-use Rattle.step_structures.specs.Predict.{Symbol, Next, next}
+use Rattle.step_structures.specs.steps.Predict.{Symbol, Next, next}
 use Rattle.step_structures.proofs.Forms.{Form, fixed, by_level, by_section, by_head, by_keyword, by_name, form, Little, Told, ToldBy}
 
 -- under these rules it could be next
-abbrev pub Can : Rules → Symbol → Lookahead → Type 0
+abbrev pub Can : StructureRules → Symbol → Lookahead → Type 0
 Can w y s = (zs : List Symbol) × (next w y s ≡ Ok zs)
 
 abbrev pub If : Bool → Type 0 → Type 0
@@ -35,7 +35,7 @@ Why y s kinds.TooDeep = Lets y s false false true false × NoSemicolon s
 Why y s kinds.HeaderFault = Lets y s false false false true × NoSemicolon s
 Why y s k = Lets y s false false false false × Told y s k
 
-refuses : (w : Rules) (y : Symbol) (s : Lookahead) (v : Next) (k : FaultKind) → next w y s ≡ v → v ≡ Err k
+refuses : (w : StructureRules) (y : Symbol) (s : Lookahead) (v : Next) (k : FaultKind) → next w y s ≡ v → v ≡ Err k
     → Can w y s → ⊥
 refuses w y s v k e d c = let q : (let n : Next = Ok c.0 in n) ≡ Err k = sym c.1 ∙ e ∙ d in cc
 
@@ -49,7 +49,7 @@ why_told y s kinds.DuplicateName l t = absurd t
 why_told y s (kinds.LeftOut left_out.TooMany) l t = absurd t
 why_told y s k l t = (l, t)
 
-why_fixed : (y : Symbol) (s : Lookahead) (v : Next) (k : FaultKind) → ((w : Rules) → next w y s ≡ v) → ToldBy y s v
+why_fixed : (y : Symbol) (s : Lookahead) (v : Next) (k : FaultKind) → ((w : StructureRules) → next w y s ≡ v) → ToldBy y s v
     → v ≡ Err k → Why y s k
 why_fixed y s v k h t e = why_told y s k (record {
   by_names = refuses repeated y s v k (h repeated) e;
@@ -65,7 +65,7 @@ never : {A : Type 0} (zs : List Symbol) (k : FaultKind) → (let v : Next = Ok z
 never zs k e = cc
 
 why_level : (y : Symbol) (s : Lookahead) (n : ℕ) (zs : List Symbol) (k : FaultKind) (b : Bool)
-    → nat_lt n the_rules.levels ≡ b → ((w : Rules)
+    → nat_lt n the_rules.levels ≡ b → ((w : StructureRules)
     → next w y s ≡ (if nat_lt n w.levels then Ok zs else Err kinds.TooDeep)) → n ≤ the_rules.levels → NoSemicolon s
     → (let v : Next = if b then Ok zs else Err kinds.TooDeep in v) ≡ Err k → Why y s k
 why_level y s n zs k true t h l o e = never zs k e
@@ -83,7 +83,7 @@ why_level y s n zs k false t h l o e =
     )
 
 why_section : (y : Symbol) (s : Lookahead) (n : ℕ) (zs : List Symbol) (k : FaultKind) (b : Bool)
-    → nat_lt n the_rules.sections ≡ b → ((w : Rules)
+    → nat_lt n the_rules.sections ≡ b → ((w : StructureRules)
     → next w y s ≡ (if nat_lt n w.sections then Ok zs else Err (kinds.LeftOut left_out.TooMany)))
     → n ≤ the_rules.sections → NoSemicolon s
     → (let v : Next = if b then Ok zs else Err (kinds.LeftOut left_out.TooMany) in v) ≡ Err k → Why y s k
@@ -102,7 +102,7 @@ why_section y s n zs k false t h l o e =
     )
 
 why_head : (y : Symbol) (s : Lookahead) (c : Bool) (zs : List Symbol) (k : FaultKind)
-    → ((w : Rules) → next w y s ≡ (if w.headed && c then Err kinds.HeaderFault else Ok zs)) → NoSemicolon s
+    → ((w : StructureRules) → next w y s ≡ (if w.headed && c then Err kinds.HeaderFault else Ok zs)) → NoSemicolon s
     → (let v : Next = if c then Err kinds.HeaderFault else Ok zs in v) ≡ Err k → Why y s k
 why_head y s false zs k h o e = never zs k e
 why_head y s true zs k h o e = subst (Why y s) (same_kind kinds.HeaderFault k e) (
@@ -116,7 +116,7 @@ why_head y s true zs k h o e = subst (Why y s) (same_kind kinds.HeaderFault k e)
 )
 
 why_keyword : (y : Symbol) (s : Lookahead) (c : Bool) (zs : List Symbol) (k : FaultKind)
-    → ((w : Rules) → next w y s ≡ (if w.distinct && c then Err kinds.DuplicateName else Ok zs)) → NoSemicolon s
+    → ((w : StructureRules) → next w y s ≡ (if w.distinct && c then Err kinds.DuplicateName else Ok zs)) → NoSemicolon s
     → (let v : Next = if c then Err kinds.DuplicateName else Ok zs in v) ≡ Err k → Why y s k
 why_keyword y s false zs k h o e = never zs k e
 why_keyword y s true zs k h o e = subst (Why y s) (same_kind kinds.DuplicateName k e) (
@@ -129,12 +129,12 @@ why_keyword y s true zs k h o e = subst (Why y s) (same_kind kinds.DuplicateName
   o,
 )
 
-abbrev Named : Bool → ℕ → List Symbol → Rules → Next
+abbrev Named : Bool → ℕ → List Symbol → StructureRules → Next
 Named c n zs w = if w.distinct && c then Err kinds.DuplicateName else
     (if nat_lt n w.instances then Ok zs else Err (kinds.LeftOut left_out.TooMany))
 
 why_name : (y : Symbol) (s : Lookahead) (c : Bool) (n : ℕ) (zs : List Symbol) (k : FaultKind) (b : Bool)
-    → nat_lt n the_rules.instances ≡ b → ((w : Rules) → next w y s ≡ Named c n zs w) → n ≤ the_rules.instances
+    → nat_lt n the_rules.instances ≡ b → ((w : StructureRules) → next w y s ≡ Named c n zs w) → n ≤ the_rules.instances
     → NoSemicolon s → (let v : Next = if c then Err kinds.DuplicateName else
     (if b then Ok zs else Err (kinds.LeftOut left_out.TooMany)) in v) ≡ Err k → Why y s k
 why_name y s true n zs k b t h l o e = subst (Why y s) (same_kind kinds.DuplicateName k e) (

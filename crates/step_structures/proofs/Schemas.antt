@@ -4,12 +4,12 @@ use Rattle.parsing.specs.Tables.{LocatedToken, lookaheads, passes, run}
 use Rattle.parsing.proofs.Lists.{lookaheads_append, placed, lookaheads_placed, cut_at, passes_or_stops, passes_or_short}
 use Rattle.parsing.proofs.Leading.{Leads, leads_once}
 use Rattle.parsing.proofs.Running.{reaches_run, Passed, passed, Ends, ends}
-use Rattle.step_lexis.specs.declared.token.Mark.TheVariants.{Semicolon}
+use Rattle.step_lexer.specs.declared.token.Mark.TheVariants.{Semicolon}
 use Rattle.step_structures.specs.Words.{string, mark, Lookahead, token}
 use Rattle.step_structures.specs.Trees.{leaf, group, Trees, none, one, Record, File, Item, this, Meets, MeetAll, items_of_record, items_of_records, items_of_header, items_of_sections, items_of_end, items_of_file, section}
-use Rattle.step_structures.specs.Fits.{Rules, the_rules, FitsRecords, FitsHeader, FitsFile, IsHeader, HasSchema, NamesSchema, Where}
+use Rattle.step_structures.specs.Fits.{StructureRules, the_rules, FitsRecords, FitsHeader, FitsFile, IsHeader, HasSchema, NamesSchema, Where}
 use Rattle.step_structures.specs.Texts.{items_of_opening, HoldsSchema}
-use Rattle.step_structures.specs.Predict.{Just, next, opening_symbols, table}
+use Rattle.step_structures.specs.steps.Predict.{Just, next, opening_symbols, table}
 use Rattle.step_structures.proofs.Meeting.{meet_as, meet_join, meet_split, met_last, meets_this}
 use Rattle.step_structures.proofs.Passing.{pass_opening, pass_opened, header_items, regroup_two}
 use Rattle.step_structures.proofs.Sound.{langs_split, single, sound, opening_of}
@@ -17,17 +17,17 @@ use Rattle.step_structures.proofs.Unique.{same_two, same_third}
 use Rattle.step_structures.proofs.Looser.{IsLooser, looser_records, looser_header}
 
 -- what holds of tokens holds of those that come first
-pub holds_front : (rules : Rules) (a b : List Lookahead) → HoldsSchema rules (a ++ b) → HoldsSchema rules a
+pub holds_front : (rules : StructureRules) (a b : List Lookahead) → HoldsSchema rules (a ++ b) → HoldsSchema rules a
 holds_front rules a b h p q r first rest e fits named met = h p q r first (rest ++ b)
     (ap (λ l. l ++ b) e ∙ append_assoc first rest b) fits named met
 
--- .. and under stricter rules
-pub holds_stricter : (a b : Rules) → IsLooser a b → (s : List Lookahead) → HoldsSchema b s → HoldsSchema a s
+-- what holds of tokens under looser rules holds under stricter ones
+pub holds_stricter : (a b : StructureRules) → IsLooser a b → (s : List Lookahead) → HoldsSchema b s → HoldsSchema a s
 holds_stricter a b l s h p q r first rest e fits named met = h p q r first rest e (looser_records a b l (p ∷ q ∷ r ∷ [])
     fits) named met
 
 -- tokens are those of one opening
-three_same : (p q r x y z : Record) (rules : Rules) (ws : List Lookahead) → FitsRecords rules (p ∷ q ∷ r ∷ [])
+three_same : (p q r x y z : Record) (rules : StructureRules) (ws : List Lookahead) → FitsRecords rules (p ∷ q ∷ r ∷ [])
     → FitsRecords rules (x ∷ y ∷ z ∷ []) → MeetAll ws (items_of_opening p q r) → MeetAll ws (items_of_opening x y z)
     → (p ≡ x) × (q ≡ y) × (r ≡ z)
 three_same p q r x y z rules [] f g h k = absurd h
@@ -45,7 +45,7 @@ three_same p q r x y z rules (a ∷ b ∷ c ∷ d ∷ ws) f g h k =
     (items_of_record z)) k.1.1.1.1) in
     (t.0, t.1, same_third r z rules t.2 f.1.1.0 g.1.1.0 t.3 t.4)
 
-pub one_opening : (rules : Rules) (p q r x y z : Record) (u v a b : List Lookahead)
+pub one_opening : (rules : StructureRules) (p q r x y z : Record) (u v a b : List Lookahead)
     → FitsRecords rules (p ∷ q ∷ r ∷ []) → Where rules.headed (IsHeader (p ∷ q ∷ r ∷ []))
     → FitsRecords rules (x ∷ y ∷ z ∷ []) → Where rules.headed (IsHeader (x ∷ y ∷ z ∷ []))
     → MeetAll u (items_of_opening p q r) → MeetAll v (items_of_opening x y z) → u ++ a ≡ v ++ b
@@ -94,7 +94,7 @@ holds_whole x ws f schema h = by x.header f.0 schema h
         let o = opening_in p q r more (items_of_sections x.sections) items_of_end ws k in
         holds_named p q r o.0 o.1 ws (g.0.0, (g.0.1.0, (g.0.1.1.0, tt))) g.2 s o.3 o.2
 
--- .. and the other way
+-- if the tokens of a structure hold it, FILE_SCHEMA names a schema
 pub schema_held : (x : File) (ws : List Lookahead) → FitsFile the_rules x → HoldsSchema the_rules ws
     → MeetAll ws (items_of_file x) → HasSchema x.header
 schema_held x ws f holds h = by x.header f.0 h
@@ -117,7 +117,7 @@ schema_held x ws f holds h = by x.header f.0 h
         holds p q r m.0 m.1 m.2 (g.0.0, (g.0.1.0, (g.0.1.1.0, tt))) g.2 m.3
 
 -- The first three records of a structure fit its rules, also where looser ones were asked for.
-fits_in : (rules w : Rules) → IsLooser rules w → (x : File) (ws u v : List Lookahead) (p q r : Record)
+fits_in : (rules w : StructureRules) → IsLooser rules w → (x : File) (ws u v : List Lookahead) (p q r : Record)
     → FitsFile rules x → MeetAll ws (items_of_file x) → FitsRecords w (p ∷ q ∷ r ∷ []) → IsHeader (p ∷ q ∷ r ∷ [])
     → ws ≡ u ++ v → MeetAll u (items_of_opening p q r) → FitsRecords rules (p ∷ q ∷ r ∷ [])
 fits_in rules w i x ws u v p q r f h fits named e met = by x.header f.0 h
@@ -142,7 +142,7 @@ fits_in rules w i x ws u v p q r f h fits named e met = by x.header f.0 h
         always false n = tt
 
 -- no token but a semicolon completes a third record
-pub holds_behind : (rules w : Rules) → IsLooser rules w → (x : File) (before rest : List Lookahead) (s : Lookahead)
+pub holds_behind : (rules w : StructureRules) → IsLooser rules w → (x : File) (before rest : List Lookahead) (s : Lookahead)
     → FitsFile rules x → MeetAll (before ++ rest) (items_of_file x) → HoldsSchema rules before
     → (s ≡ token (mark Semicolon) → ⊥) → HoldsSchema w (before ++ s ∷ [])
 holds_behind rules w i x before rest s f h holds other p q r first more e fits named met =

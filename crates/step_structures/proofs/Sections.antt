@@ -3,12 +3,12 @@ use Rattle.std.proofs.Common.{◌≡◌, ℕ, zero, suc, Bool, true, false, List
 use Rattle.parsing.specs.Languages.{AllAre}
 use Rattle.parsing.proofs.Leading.{Leads, leads_join, leads_more, leads_parts, leads_same, leads_split}
 use Rattle.parsing.proofs.Lists.{all_append}
-use Rattle.step_lexis.specs.declared.token.Mark.TheVariants.{Semicolon}
+use Rattle.step_lexer.specs.declared.token.Mark.TheVariants.{Semicolon}
 use Rattle.step_structures.specs.Words.{keyword, ends, mark, Lookahead, token, end_of_text}
 use Rattle.step_structures.specs.Trees.{Section, Item, this, finish, is_said, Meets, MeetAll, items_of_header, items_of_sections, items_of_end}
 use Rattle.step_structures.specs.Fits.{the_rules}
 use Rattle.step_structures.specs.Texts.{EndsHeader, EndsData, EndsFile}
-use Rattle.step_structures.specs.Predict.{Symbol, Just, Sections, EndOfText, Next, header_symbols, data_symbols, file_symbols, table}
+use Rattle.step_structures.specs.steps.Predict.{Symbol, Just, Sections, EndOfText, Next, header_symbols, data_symbols, file_symbols, table}
 use Rattle.step_structures.proofs.Meeting.{meet_as, meets_finish}
 use Rattle.step_structures.proofs.Passing.{names_after, sections_after, pass_header, pass_sectioned, pass_file}
 use Rattle.step_structures.proofs.Sound.{sound, header_of, file_of}
@@ -128,7 +128,7 @@ ended_data ws k names h =
         ++ this (mark Semicolon) ∷ []) ++ finish ∷ []) (sym (regrouped before (this ends) (this (mark Semicolon))
         finish)) h)
 
--- a section or the end of the file is to come behind the header or sections ..
+-- a section or the end of the file is to come behind the header or sections
 pub between_ends : (ws : List Lookahead) (top : Symbol) (others : List Symbol)
     → Leads table file_symbols ws (top ∷ others)
     → IsBehindSections top → EndsHeader ws ⊎ EndsData ws
@@ -138,7 +138,7 @@ between_ends ws top others h (suc k, names, e) =
     inr (ended_data ws k names (only ws (Sections (suc k) names) top others h
     e (λ n. n)))
 
--- .. and nothing behind a whole file
+-- if only the end of the text is expected, the tokens are a whole file without it
 pub ended_file : (ws : List Lookahead) (top : Symbol) (others : List Symbol)
     → Leads table file_symbols ws (top ∷ others)
     → top ≡ EndOfText → EndsFile ws

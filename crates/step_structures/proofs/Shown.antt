@@ -1,11 +1,11 @@
 -- A lexer shows one thing at each place of a text.
 use Rattle.std.proofs.Common.{◌≡◌, ℕ, List, refl, sym, ap, ◌∙◌, Some, None, Ok, Err}
 use Rattle.parsing.proofs.Shown.{IsDetermined}
-use Rattle.step_lexis.specs.declared.token.Sort.{Sort}
-use Rattle.step_lexis.specs.declared.token.Sort.TheVariants as sorts
-use Rattle.step_lexis.specs.declared.token.Token.{Token}
-use Rattle.step_lexis.specs.Reading.{SameSort}
-use Rattle.step_lexis.proofs.Determined.{determined}
+use Rattle.step_lexer.specs.declared.token.Sort.{Sort}
+use Rattle.step_lexer.specs.declared.token.Sort.TheVariants as sorts
+use Rattle.step_lexer.specs.declared.token.Token.{Token}
+use Rattle.step_lexer.specs.Reading.{SameSort}
+use Rattle.step_lexer.proofs.Determined.{determined}
 use Rattle.step_structures.specs.Words.{Word, keyword, user_defined, name, number, element, string, binary, mark, word_of, token, LocatedToken, located, located_fault, Shows, shows_token, shows_fault, shows_end}
 
 same_word : (s u : Sort) (t : List ℕ) → SameSort s u → word_of s t ≡ word_of u t

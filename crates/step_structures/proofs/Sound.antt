@@ -1,21 +1,21 @@
 -- What leads from what is to come, by the table, to nothing more is a structure, or the part of one that is asked for.
 use Rattle.std.proofs.Common.{◌≡◌, ℕ, ◌+◌, ◌<◌, Bool, true, false, not, ◌&&◌, eqb, ltb, suc, zero, ◌-◌, ◌≤◌, List, [], ◌∷◌, ◌++◌, length, Option, Some, None, Ok, Err, codes, refl, sym, ap, ◌∙◌, subst, append_assoc, append-nil, arith, if◌then◌else◌, ◌⊎◌, inl, inr, MatchResult}
 use Rattle.parsing.proofs.Leading.{Leads}
-use Rattle.step_lexis.specs.declared.token.Mark.{Mark}
-use Rattle.step_lexis.specs.declared.token.Mark.TheVariants.{Open, Close, Comma, Semicolon, Equals, Dollar, Asterisk}
+use Rattle.step_lexer.specs.declared.token.Mark.{Mark}
+use Rattle.step_lexer.specs.declared.token.Mark.TheVariants.{Open, Close, Comma, Semicolon, Equals, Dollar, Asterisk}
 use Rattle.step_structures.specs.declared.fault.FaultKind.{FaultKind}
 use Rattle.step_structures.specs.declared.fault.FaultKind.TheVariants as kinds
 use Rattle.step_structures.specs.declared.fault.LeftOut.TheVariants as left_out
 use Rattle.step_structures.specs.Words.{begins, ends, keyword, name, number, element, string, binary, mark, Lookahead, token, end_of_text}
-use Rattle.step_structures.specs.Trees.{Tree, leaf, typed, group, Trees, none, one, Record, Form, internal, external, Row, Section, rows_of, Item, this, says, finish, is_said, MeetAll, items_of_tree, items_of_more, items_of_list, items_of_record, items_of_partial_records, items_of_form, items_of_rows, items_of_records, section, items_of_start, items_of_header, items_of_heading, items_of_sections, items_of_end}
-use Rattle.step_structures.specs.Fits.{Rules, FitsTree, FitsTrees, FitsRecord, Where, has_keyword, FitsPartialRecords, FitsForm, has_name, FitsRows, FitsRecords, IsHeader, FitsHeader}
+use Rattle.step_structures.specs.Trees.{Tree, leaf, typed, group, Trees, none, one, Record, Form, internal, external, ExchangeRow, Section, rows_of, Item, this, says, finish, is_said, MeetAll, items_of_tree, items_of_more, items_of_list, items_of_record, items_of_partial_records, items_of_form, items_of_rows, items_of_records, section, items_of_start, items_of_header, items_of_heading, items_of_sections, items_of_end}
+use Rattle.step_structures.specs.Fits.{StructureRules, FitsTree, FitsTrees, FitsRecord, Where, has_keyword, FitsPartialRecords, FitsForm, has_name, FitsRows, FitsRecords, IsHeader, FitsHeader}
 use Rattle.step_structures.specs.Texts.{items_of_opening}
-use Rattle.step_structures.specs.Predict.{refused, Symbol, Just, Start, Say, Head, Records, Ended, Sections, Behind, Quoted, Rows, Body, PartialRecords, Value, Items, More, EndOfText, Next, mark_code, record_symbols, row_symbols, heading_symbols, opening_symbols, header_symbols, data_symbols, file_symbols, next_end, section_kind, next, next_value, next_close, then_more, IsFile}
+use Rattle.step_structures.specs.steps.Predict.{refused, Symbol, Just, Start, Say, Head, Records, Ended, Sections, Behind, Quoted, Rows, Body, PartialRecords, Value, Items, More, EndOfText, Next, mark_code, record_symbols, row_symbols, heading_symbols, opening_symbols, header_symbols, data_symbols, file_symbols, next_end, section_kind, next, next_value, next_close, then_more, IsFile}
 use Rattle.step_structures.proofs.Meeting.{meet_join, meet_as}
 use Rattle.step_structures.proofs.Passing.{regroup_two, header_items, items_behind, regroup_sections}
 
 -- what a symbol asks for stands
-abbrev pub Lang : Rules → Symbol → List Lookahead → Type 0
+abbrev pub Lang : StructureRules → Symbol → List Lookahead → Type 0
 Lang rules (Just m) ws = MeetAll ws (this (mark m) ∷ [])
 Lang rules Start ws = MeetAll ws (this begins ∷ [])
 Lang rules (Say word) ws = MeetAll ws (says word ∷ [])
@@ -31,7 +31,7 @@ Lang rules (Sections k names) ws = (xs : List Section) × (0 < k + length xs) ×
     × FitsRows rules names (rows_of xs) × MeetAll ws (items_of_sections xs ++ items_of_end)
 Lang rules Behind ws = (h : Option (List ℕ × List ℕ)) × MeetAll ws (items_of_heading h ++ this (mark Semicolon) ∷ [])
 Lang rules Quoted ws = (text : List ℕ) × MeetAll ws (this (string text) ∷ [])
-Lang rules (Rows k names) ws = (rs : List Row) × (xs : List Section) × (length xs ≤ rules.sections - k)
+Lang rules (Rows k names) ws = (rs : List ExchangeRow) × (xs : List Section) × (length xs ≤ rules.sections - k)
     × FitsRows rules names (rs ++ rows_of xs) × MeetAll ws (items_of_rows rs ++ items_behind xs)
 Lang rules Body ws = (x : Form) × FitsForm rules x × MeetAll ws (items_of_form x)
 Lang rules (PartialRecords before) ws = (ps : List Record) × (0 < length before + length ps)
@@ -41,12 +41,12 @@ Lang rules (Items n) ws = (xs : Trees) × FitsTrees rules n xs × MeetAll ws (it
 Lang rules (More n) ws = (xs : Trees) × FitsTrees rules n xs × MeetAll ws (items_of_more xs ++ this (mark Close) ∷ [])
 Lang rules EndOfText ws = MeetAll ws (finish ∷ [])
 
--- .. one after another
-abbrev pub Langs : Rules → List Symbol → List Lookahead → Type 0
+-- what symbols ask for, one after another
+abbrev pub Langs : StructureRules → List Symbol → List Lookahead → Type 0
 Langs rules [] ws = ws ≡ []
 Langs rules (y ∷ ys) ws = (u v : List Lookahead) × (ws ≡ u ++ v) × Lang rules y u × Langs rules ys v
 
-pub langs_split : (rules : Rules) (zs ys : List Symbol) (ws : List Lookahead) → Langs rules (zs ++ ys) ws
+pub langs_split : (rules : StructureRules) (zs ys : List Symbol) (ws : List Lookahead) → Langs rules (zs ++ ys) ws
     → (u v : List Lookahead) × (ws ≡ u ++ v) × Langs rules zs u × Langs rules ys v
 langs_split rules [] ys ws h = ([], ws, refl, refl, h)
 langs_split rules (z ∷ zs) ys ws h =
@@ -58,7 +58,7 @@ langs_split rules (z ∷ zs) ys ws h =
       p.4,
     )
 
-pub single : (rules : Rules) (y : Symbol) (ws : List Lookahead) → Langs rules (y ∷ []) ws → Lang rules y ws
+pub single : (rules : StructureRules) (y : Symbol) (ws : List Lookahead) → Langs rules (y ∷ []) ws → Lang rules y ws
 single rules y ws h = subst (Lang rules y) (sym (append-nil h.0) ∙ ap (λ l. h.0 ++ l) (sym h.4) ∙ sym h.2) h.3
 
 -- some items and others
@@ -66,22 +66,22 @@ joined : (ws u v : List Lookahead) (a b : List Item) → ws ≡ u ++ v → MeetA
 joined ws u v a b e h k = subst (λ l. MeetAll l (a ++ b)) (sym e) (meet_join u v a b h k)
 
 -- a symbol is there, if this stands first and then what comes in its place
-abbrev Held : Rules → Symbol → Lookahead → List Symbol → Type 0
+abbrev Held : StructureRules → Symbol → Lookahead → List Symbol → Type 0
 Held rules y s zs = (ws : List Lookahead) → Langs rules zs ws → Lang rules y (s ∷ ws)
 
-abbrev Answer : Rules → Symbol → Lookahead → Next → Type 0
+abbrev Answer : StructureRules → Symbol → Lookahead → Next → Type 0
 Answer rules y s v = MatchResult v (Held rules y s) (λ _. Unit {0})
 
-abbrev Production : Rules → Symbol → Lookahead → Type 0
+abbrev Production : StructureRules → Symbol → Lookahead → Type 0
 Production rules y s = Answer rules y s (next rules y s)
 
-neither : (rules : Rules) (y : Symbol) (s : Lookahead) (k j : FaultKind) (b : Bool)
+neither : (rules : StructureRules) (y : Symbol) (s : Lookahead) (k j : FaultKind) (b : Bool)
     → Answer rules y s (if b then Err k else Err j)
 neither rules y s k j true = tt
 neither rules y s k j false = tt
 
 -- a symbol that a token alone is
-at_end : (rules : Rules) (y : Symbol) (s : Lookahead) (i : Item) → MeetAll (s ∷ []) (i ∷ [])
+at_end : (rules : StructureRules) (y : Symbol) (s : Lookahead) (i : Item) → MeetAll (s ∷ []) (i ∷ [])
     → ((ws : List Lookahead) → MeetAll ws (i ∷ []) → Lang rules y ws) → Held rules y s []
 at_end rules y s i m f = λ ws h. f (s ∷ ws) (subst (λ l. MeetAll (s ∷ l) (i ∷ [])) (sym h) m)
 
@@ -106,13 +106,13 @@ same_mark m k h =
     let e : mark_code m ≡ mark_code k = grind arith in
     sym (mark_of-code k) ∙ ap mark_of (sym e) ∙ mark_of-code m
 
-just_held : (rules : Rules) (m k : Mark) (b : Bool) → eqb (mark_code m) (mark_code k) ≡ b
+just_held : (rules : StructureRules) (m k : Mark) (b : Bool) → eqb (mark_code m) (mark_code k) ≡ b
     → Answer rules (Just m) (token (mark k)) (if b then Ok [] else Err (refused (token (mark k))))
 just_held rules m k true g = at_end rules (Just m) (token (mark k)) (this (mark m)) (ap mark (same_mark m k g), tt)
     (λ ws h. h)
 just_held rules m k false g = tt
 
-just_production : (rules : Rules) (m : Mark) (s : Lookahead) → Production rules (Just m) s
+just_production : (rules : StructureRules) (m : Mark) (s : Lookahead) → Production rules (Just m) s
 just_production rules m (token (mark k)) = just_held rules m k (eqb (mark_code m) (mark_code k)) refl
 just_production rules m s = tt
 
@@ -120,7 +120,7 @@ open_below : (n levels : ℕ) → ltb n levels ≡ true → n < levels
 open_below n levels h = grind arith
 
 -- a parameter
-leaf_held : (rules : Rules) (n : ℕ) (s : Lookahead) (x : Tree) (i : Item) → FitsTree rules n x
+leaf_held : (rules : StructureRules) (n : ℕ) (s : Lookahead) (x : Tree) (i : Item) → FitsTree rules n x
     → items_of_tree x ≡ i ∷ []
     → MeetAll (s ∷ []) (i ∷ []) → Held rules (Value n) s []
 leaf_held rules n s x i f e m = at_end rules (Value n) s i m (λ ws h. (
@@ -130,7 +130,7 @@ leaf_held rules n s x i f e m = at_end rules (Value n) s i m (λ ws h. (
       (sym e) h,
 ))
 
-typed_held : (rules : Rules) (n : ℕ) (text : List ℕ) (b : Bool) → ltb n rules.levels ≡ b
+typed_held : (rules : StructureRules) (n : ℕ) (text : List ℕ) (b : Bool) → ltb n rules.levels ≡ b
     → Answer rules (Value n) (token (keyword text)) (if b then Ok (Just Open ∷ Value (n + 1) ∷ Just Close ∷ []) else Err
     kinds.TooDeep)
 typed_held rules n text true g = λ ws h.
@@ -147,14 +147,14 @@ typed_held rules n text true g = λ ws h.
     )
 typed_held rules n text false g = tt
 
-group_held : (rules : Rules) (n : ℕ) (b : Bool) → ltb n rules.levels ≡ b → Answer rules (Value n) (token (mark Open))
+group_held : (rules : StructureRules) (n : ℕ) (b : Bool) → ltb n rules.levels ≡ b → Answer rules (Value n) (token (mark Open))
     (if b then Ok (Items (n + 1) ∷ []) else Err kinds.TooDeep)
 group_held rules n true g = λ ws h.
     let xs = single rules (Items (n + 1)) ws h in
     (group xs.0, (open_below n rules.levels g, xs.1), (refl, xs.2))
 group_held rules n false g = tt
 
-value_production : (rules : Rules) (n : ℕ) (s : Lookahead) → Production rules (Value n) s
+value_production : (rules : StructureRules) (n : ℕ) (s : Lookahead) → Production rules (Value n) s
 value_production rules n (token (mark Dollar)) = leaf_held rules n (token (mark Dollar)) (leaf (mark Dollar))
     (this (mark Dollar)) tt refl (refl, tt)
 value_production rules n (token (mark Asterisk)) = leaf_held rules n (token (mark Asterisk)) (leaf (mark Asterisk))
@@ -183,7 +183,7 @@ list_joined ws u v x xs e h k =
     (sym (append_assoc (items_of_tree x) (items_of_more xs) (this (mark Close) ∷ [])))
     (joined ws u v (items_of_tree x) tail e h k)
 
-items_from_value : (rules : Rules) (n : ℕ) (s : Lookahead) (v : Next) → Answer rules (Value n) s v
+items_from_value : (rules : StructureRules) (n : ℕ) (s : Lookahead) (v : Next) → Answer rules (Value n) s v
     → Answer rules (Items n) s (then_more n v)
 items_from_value rules n s (Err k) f = tt
 items_from_value rules n s (Ok zs) f = λ ws h.
@@ -192,12 +192,12 @@ items_from_value rules n s (Ok zs) f = λ ws h.
     let ys = single rules (More n) p.1 p.4 in
     (one y.0 ys.0, (y.1, ys.1), list_joined (s ∷ ws) (s ∷ p.0) p.1 y.0 ys.0 (ap (λ l. s ∷ l) p.2) y.2 ys.2)
 
-items_production : (rules : Rules) (n : ℕ) (s : Lookahead) → Production rules (Items n) s
+items_production : (rules : StructureRules) (n : ℕ) (s : Lookahead) → Production rules (Items n) s
 items_production rules n (token (mark Close)) = at_end rules (Items n) (token (mark Close)) (this (mark Close))
     (refl, tt) (λ ws h. (none, tt, h))
 items_production rules n s = items_from_value rules n s (next_value rules n s) (value_production rules n s)
 
-more_production : (rules : Rules) (n : ℕ) (s : Lookahead) → Production rules (More n) s
+more_production : (rules : StructureRules) (n : ℕ) (s : Lookahead) → Production rules (More n) s
 more_production rules n (token (mark Close)) = at_end rules (More n) (token (mark Close)) (this (mark Close))
     (refl, tt) (λ ws h. (none, tt, h))
 more_production rules n (token (mark Comma)) = λ ws h.
@@ -224,7 +224,7 @@ params_joined ws a b u v xs items e f h k l = joined ws a b (this (mark Open) �
     (joined b u v (items_of_list xs) items f k l)
 
 -- partial records
-partial_held : (rules : Rules) → 1 < rules.levels → (before : List (List ℕ)) (text : List ℕ) (b : Bool)
+partial_held : (rules : StructureRules) → 1 < rules.levels → (before : List (List ℕ)) (text : List ℕ) (b : Bool)
     → (rules.distinct && has_keyword text before) ≡ b → Answer rules (PartialRecords before) (token (keyword text))
     (if b then Err kinds.DuplicateName else Ok (Just Open ∷ Items 2 ∷ PartialRecords (before ++ text ∷ []) ∷ []))
 partial_held rules deep before text true g = tt
@@ -247,13 +247,13 @@ partial_held rules deep before text false g = λ ws h.
       ),
     )
 
-close_held : (rules : Rules) (before : List (List ℕ)) → Answer rules (PartialRecords before) (token (mark Close))
+close_held : (rules : StructureRules) (before : List (List ℕ)) → Answer rules (PartialRecords before) (token (mark Close))
     (next_close before)
 close_held rules [] = tt
 close_held rules (w ∷ before) = at_end rules (PartialRecords (w ∷ before)) (token (mark Close)) (this (mark Close))
     (refl, tt) (λ ws h. ([], omega arith, tt, h))
 
-partials_production : (rules : Rules) → 1 < rules.levels → (before : List (List ℕ)) (s : Lookahead)
+partials_production : (rules : StructureRules) → 1 < rules.levels → (before : List (List ℕ)) (s : Lookahead)
     → Production rules (PartialRecords before) s
 partials_production rules deep before (token (keyword text)) = partial_held rules deep before text
     (rules.distinct && has_keyword text before) refl
@@ -261,12 +261,12 @@ partials_production rules deep before (token (mark Close)) = close_held rules be
 partials_production rules deep before s = tt
 
 -- parameters in parentheses
-list_held : (rules : Rules) (ws : List Lookahead) → Langs rules record_symbols ws → (xs : Trees)
+list_held : (rules : StructureRules) (ws : List Lookahead) → Langs rules record_symbols ws → (xs : Trees)
     × FitsTrees rules 1 xs × MeetAll ws (this (mark Open) ∷ items_of_list xs)
 list_held rules ws h = let xs = single rules (Items 1) h.1 h.4 in
     (xs.0, xs.1, joined ws h.0 h.1 (this (mark Open) ∷ []) (items_of_list xs.0) h.2 h.3 xs.2)
 
-body_production : (rules : Rules) → 1 < rules.levels → (s : Lookahead) → Production rules Body s
+body_production : (rules : StructureRules) → 1 < rules.levels → (s : Lookahead) → Production rules Body s
 body_production rules deep (token (keyword text)) = λ ws h.
     let xs = list_held rules ws h in
     (internal (record { keyword = text; values = xs.0 }), (omega (arith, deep), xs.1), (refl, xs.2))
@@ -276,7 +276,7 @@ body_production rules deep (token (mark Open)) = λ ws h.
 body_production rules deep s = tt
 
 -- instances
-name_held : (rules : Rules) (k : ℕ) (names : List ℕ) (n : ℕ) (text : List ℕ) (a b : Bool)
+name_held : (rules : StructureRules) (k : ℕ) (names : List ℕ) (n : ℕ) (text : List ℕ) (a b : Bool)
     → (rules.distinct && has_name n names) ≡ a → ltb (length names) rules.instances ≡ b → Answer rules (Rows k names)
     (token (name n text)) (if a then Err kinds.DuplicateName else
     (if b then Ok (row_symbols ++ Rows k (names ++ n ∷ []) ∷ []) else Err (kinds.LeftOut left_out.TooMany)))
@@ -287,7 +287,7 @@ name_held rules k names n text false true g e = λ ws h.
     let semi = form.4 in
     let x = form.3 in
     let rs = single rules (Rows k (names ++ n ∷ [])) semi.1 semi.4 in
-    let r : Row = record { name = n; form = x.0 } in
+    let r : ExchangeRow = record { name = n; form = x.0 } in
     let equals = this (mark Equals) ∷ [] in
     let semicolon = this (mark Semicolon) ∷ [] in
     let last = items_of_rows rs.0 ++ items_behind rs.1 in
@@ -310,7 +310,7 @@ name_held rules k names n text false true g e = λ ws h.
       ),
     )
 
-rows_end_held : (rules : Rules) (k : ℕ) (names text : List ℕ) (b : Bool) → is_said (codes "ENDSEC") text ≡ b
+rows_end_held : (rules : StructureRules) (k : ℕ) (names text : List ℕ) (b : Bool) → is_said (codes "ENDSEC") text ≡ b
     → Answer rules (Rows k names) (token (keyword text)) (if b then Ok (Just Semicolon ∷ Sections k names ∷ []) else
     Err kinds.Expected)
 rows_end_held rules k names text true g = λ ws h.
@@ -327,14 +327,14 @@ rows_end_held rules k names text true g = λ ws h.
     )
 rows_end_held rules k names text false g = tt
 
-rows_production : (rules : Rules) (k : ℕ) (names : List ℕ) (s : Lookahead) → Production rules (Rows k names) s
+rows_production : (rules : StructureRules) (k : ℕ) (names : List ℕ) (s : Lookahead) → Production rules (Rows k names) s
 rows_production rules k names (token (name n text)) = name_held rules k names n text
     (rules.distinct && has_name n names) (ltb (length names) rules.instances) refl refl
 rows_production rules k names (token (keyword text)) = rows_end_held rules k names text (is_said (codes "ENDSEC") text)
     refl
 rows_production rules k names s = tt
 
-section_held : (rules : Rules) (k : ℕ) (names text : List ℕ) → is_said (codes "DATA") text ≡ true → (b : Bool)
+section_held : (rules : StructureRules) (k : ℕ) (names text : List ℕ) → is_said (codes "DATA") text ≡ true → (b : Bool)
     → ltb k rules.sections ≡ b → Answer rules (Sections k names) (token (keyword text))
     (if b then Ok (Behind ∷ Rows (suc k) names ∷ []) else Err (kinds.LeftOut left_out.TooMany))
 section_held rules k names text g false e = tt
@@ -357,13 +357,13 @@ section_held rules k names text g true e = λ ws h.
       ),
     )
 
-data_held : (rules : Rules) (k : ℕ) (names text : List ℕ) (b : Bool) → is_said (codes "DATA") text ≡ b
+data_held : (rules : StructureRules) (k : ℕ) (names text : List ℕ) (b : Bool) → is_said (codes "DATA") text ≡ b
     → Answer rules (Sections k names) (token (keyword text)) (if b then (if ltb k rules.sections then
     Ok (Behind ∷ Rows (suc k) names ∷ []) else Err (kinds.LeftOut left_out.TooMany)) else Err (section_kind text))
 data_held rules k names text true g = section_held rules k names text g (ltb k rules.sections) refl
 data_held rules k names text false g = tt
 
-end_held : (rules : Rules) (k : ℕ) (names : List ℕ) → Answer rules (Sections k names) (token ends) (next_end k)
+end_held : (rules : StructureRules) (k : ℕ) (names : List ℕ) → Answer rules (Sections k names) (token ends) (next_end k)
 end_held rules zero names = tt
 end_held rules (suc k) names = λ ws h.
     let last = single rules EndOfText h.1 h.4 in (
@@ -374,14 +374,14 @@ end_held rules (suc k) names = λ ws h.
       (refl, joined ws h.0 h.1 (this (mark Semicolon) ∷ []) (finish ∷ []) h.2 h.3 last),
     )
 
-sections_production : (rules : Rules) (k : ℕ) (names : List ℕ) (s : Lookahead) → Production rules (Sections k names) s
+sections_production : (rules : StructureRules) (k : ℕ) (names : List ℕ) (s : Lookahead) → Production rules (Sections k names) s
 sections_production rules k names (token ends) = end_held rules k names
 sections_production rules k names (token (keyword text)) = data_held rules k names text (is_said (codes "DATA") text)
     refl
 sections_production rules k names s = tt
 
 -- the header
-records_joined : (rules : Rules) (ws : List Lookahead) → Langs rules (Items 1 ∷ Just Semicolon ∷ Records ∷ []) ws
+records_joined : (rules : StructureRules) (ws : List Lookahead) → Langs rules (Items 1 ∷ Just Semicolon ∷ Records ∷ []) ws
     → (xs : Trees) × (ps : List Record) × FitsTrees rules 1 xs × FitsRecords rules ps
     × MeetAll ws (items_of_list xs ++ this (mark Semicolon) ∷ items_of_records ps ++ section (codes "ENDSEC"))
 records_joined rules ws h =
@@ -400,7 +400,7 @@ records_joined rules ws h =
           (joined h.1 k.0 k.1 (this (mark Semicolon) ∷ []) last k.2 k.3 ps.2)),
     )
 
-ended_production : (rules : Rules) (s : Lookahead) → Production rules Ended s
+ended_production : (rules : StructureRules) (s : Lookahead) → Production rules Ended s
 ended_production rules (token (mark Semicolon)) = at_end rules Ended (token (mark Semicolon)) (this (mark Semicolon))
     (refl, tt) (λ ws h. inl h)
 ended_production rules (token (mark Open)) = λ ws h.
@@ -408,7 +408,7 @@ ended_production rules (token (mark Open)) = λ ws h.
     inr (r.0, r.1, r.2, r.3, (refl, r.4))
 ended_production rules s = tt
 
-records_held : (rules : Rules) → 0 < rules.levels → (text : List ℕ) (b : Bool) → is_said (codes "ENDSEC") text ≡ b
+records_held : (rules : StructureRules) → 0 < rules.levels → (text : List ℕ) (b : Bool) → is_said (codes "ENDSEC") text ≡ b
     → Answer rules Records (token (keyword text)) (if b then Ok (Ended ∷ []) else Ok (Just Open ∷ Items 1
     ∷ Just Semicolon ∷ Records ∷ []))
 records_held rules deep text true g = λ ws h. by ws (single rules Ended ws h)
@@ -425,11 +425,11 @@ records_held rules deep text false g = λ ws h.
     let items = items_of_list r.0 ++ this (mark Semicolon) ∷ items_of_records r.1 ++ section (codes "ENDSEC") in
     (p ∷ r.1, ((deep, r.2), r.3), (refl, joined ws h.0 h.1 (this (mark Open) ∷ []) items h.2 h.3 r.4))
 
-records_production : (rules : Rules) → 0 < rules.levels → (s : Lookahead) → Production rules Records s
+records_production : (rules : StructureRules) → 0 < rules.levels → (s : Lookahead) → Production rules Records s
 records_production rules deep (token (keyword text)) = records_held rules deep text (is_said (codes "ENDSEC") text) refl
 records_production rules deep s = tt
 
-head_held : (rules : Rules) → 0 < rules.levels → (word text : List ℕ) (b : Bool)
+head_held : (rules : StructureRules) → 0 < rules.levels → (word text : List ℕ) (b : Bool)
     → (rules.headed && not (is_said word text)) ≡ b → Answer rules (Head word) (token (keyword text))
     (if b then Err kinds.HeaderFault else Ok record_symbols)
 head_held rules deep word text true g = tt
@@ -441,29 +441,29 @@ head_held rules deep word text false g = λ ws h.
       (refl, xs.2),
     )
 
-head_production : (rules : Rules) → 0 < rules.levels → (word : List ℕ) (s : Lookahead) → Production rules (Head word) s
+head_production : (rules : StructureRules) → 0 < rules.levels → (word : List ℕ) (s : Lookahead) → Production rules (Head word) s
 head_production rules deep word (token (keyword text)) = head_held rules deep word text
     (rules.headed && not (is_said word text)) refl
 head_production rules deep word s = tt
 
 -- words and marks
-said_held : (rules : Rules) (y : Symbol) (word text : List ℕ) (k : FaultKind) (b : Bool) → is_said word text ≡ b
+said_held : (rules : StructureRules) (y : Symbol) (word text : List ℕ) (k : FaultKind) (b : Bool) → is_said word text ≡ b
     → ((ws : List Lookahead) → MeetAll ws (says word ∷ []) → Lang rules y ws)
     → Answer rules y (token (keyword text)) (if b then Ok [] else Err k)
 said_held rules y word text k true g f = at_end rules y (token (keyword text)) (says word) (g, tt) f
 said_held rules y word text k false g f = tt
 
-say_production : (rules : Rules) (word : List ℕ) (s : Lookahead) → Production rules (Say word) s
+say_production : (rules : StructureRules) (word : List ℕ) (s : Lookahead) → Production rules (Say word) s
 say_production rules word (token (keyword text)) = said_held rules (Say word) word text kinds.Expected
     (is_said word text) refl (λ ws h. h)
 say_production rules word s = tt
 
-start_production : (rules : Rules) (s : Lookahead) → Production rules Start s
+start_production : (rules : StructureRules) (s : Lookahead) → Production rules Start s
 start_production rules (token begins) = at_end rules Start (token begins) (this begins) (refl, tt) (λ ws h. h)
 start_production rules s = tt
 
 -- what stands behind the word of a data section
-heading_held : (rules : Rules) (ws : List Lookahead) → Langs rules heading_symbols ws
+heading_held : (rules : StructureRules) (ws : List Lookahead) → Langs rules heading_symbols ws
     → Lang rules Behind (token (mark Open) ∷ ws)
 heading_held rules ws a =
     let b = a.4 in
@@ -488,24 +488,24 @@ heading_held rules ws a =
       ),
     )
 
-behind_production : (rules : Rules) (s : Lookahead) → Production rules Behind s
+behind_production : (rules : StructureRules) (s : Lookahead) → Production rules Behind s
 behind_production rules (token (mark Semicolon)) = at_end rules Behind (token (mark Semicolon)) (this (mark Semicolon))
     (refl, tt) (λ ws h. (None, h))
 behind_production rules (token (mark Open)) = λ ws h. heading_held rules ws h
 behind_production rules s = tt
 
-quoted_production : (rules : Rules) (s : Lookahead) → Production rules Quoted s
+quoted_production : (rules : StructureRules) (s : Lookahead) → Production rules Quoted s
 quoted_production rules (token (string text)) = at_end rules Quoted (token (string text)) (this (string text))
     (refl, tt) (λ ws h. (text, h))
 quoted_production rules s = tt
 
-over_production : (rules : Rules) (s : Lookahead) → Production rules EndOfText s
+over_production : (rules : StructureRules) (s : Lookahead) → Production rules EndOfText s
 over_production rules end_of_text = at_end rules EndOfText end_of_text finish (tt, tt) (λ ws h. h)
 over_production rules (token (keyword text)) = neither rules EndOfText (token (keyword text))
     (kinds.LeftOut left_out.Signature) kinds.Expected (is_said (codes "SIGNATURE") text)
 over_production rules s = tt
 
-production : (rules : Rules) → 1 < rules.levels → (y : Symbol) (s : Lookahead) → Production rules y s
+production : (rules : StructureRules) → 1 < rules.levels → (y : Symbol) (s : Lookahead) → Production rules y s
 production rules deep (Just m) s = just_production rules m s
 production rules deep Start s = start_production rules s
 production rules deep (Say word) s = say_production rules word s
@@ -524,7 +524,7 @@ production rules deep (More n) s = more_production rules n s
 production rules deep EndOfText s = over_production rules s
 
 -- what leads to nothing more is what was asked for
-pub sound : (rules : Rules) → 1 < rules.levels → (ws : List Lookahead) (ys : List Symbol) → Leads (next rules) ys ws []
+pub sound : (rules : StructureRules) → 1 < rules.levels → (ws : List Lookahead) (ys : List Symbol) → Leads (next rules) ys ws []
     → Langs rules ys ws
 sound rules deep [] [] h = refl
 sound rules deep [] (y ∷ ys) h = absurd cc
@@ -540,11 +540,11 @@ where_three A B C true a b c = (a, b, c)
 where_three A B C false a b c = tt
 
 -- what begins the file, and the first three records of the header
-abbrev pub IsOpened : Rules → List Lookahead → Type 0
+abbrev pub IsOpened : StructureRules → List Lookahead → Type 0
 IsOpened rules ws = (p q r : Record) × FitsRecords rules (p ∷ q ∷ r ∷ []) × Where rules.headed (IsHeader (p ∷ q ∷ r
     ∷ [])) × MeetAll ws (items_of_opening p q r)
 
-pub opening_of : (rules : Rules) (ws : List Lookahead) → Langs rules opening_symbols ws → IsOpened rules ws
+pub opening_of : (rules : StructureRules) (ws : List Lookahead) → Langs rules opening_symbols ws → IsOpened rules ws
 opening_of rules ws a =
     let semi = this (mark Semicolon) in
     let b = a.4 in
@@ -580,10 +580,10 @@ opening_of rules ws a =
     )
 
 -- the header
-abbrev pub IsHeaded : Rules → List Lookahead → Type 0
+abbrev pub IsHeaded : StructureRules → List Lookahead → Type 0
 IsHeaded rules ws = (header : List Record) × FitsHeader rules header × MeetAll ws (items_of_header header)
 
-pub header_of : (rules : Rules) (ws : List Lookahead) → Langs rules header_symbols ws → IsHeaded rules ws
+pub header_of : (rules : StructureRules) (ws : List Lookahead) → Langs rules header_symbols ws → IsHeaded rules ws
 header_of rules ws h =
     let l = langs_split rules opening_symbols (Just Semicolon ∷ Records ∷ []) ws h in
     let x = opening_of rules l.0 l.3 in
@@ -598,7 +598,7 @@ header_of rules ws h =
     )
 
 -- a whole structure
-pub file_of : (rules : Rules) (ws : List Lookahead) → Langs rules file_symbols ws → IsFile rules ws
+pub file_of : (rules : StructureRules) (ws : List Lookahead) → Langs rules file_symbols ws → IsFile rules ws
 file_of rules ws h =
     let l = langs_split rules header_symbols data_symbols ws h in
     let header = header_of rules l.0 l.3 in

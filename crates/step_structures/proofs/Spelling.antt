@@ -6,15 +6,15 @@ use Rattle.std.proofs.lemmas.List.{append_cancel_right}
 use Rattle.std.proofs.lemmas.Slice.Eq.{bytes_eq-Decides}
 use Rattle.std.proofs.lemmas.Str.Ascii.{lowercase-uppercase}
 use Rattle.parsing.specs.Tables.{lookaheads}
-use Rattle.step_lexis.specs.declared.token.Sort.{Sort}
-use Rattle.step_lexis.specs.declared.token.Sort.TheVariants as sorts
+use Rattle.step_lexer.specs.declared.token.Sort.{Sort}
+use Rattle.step_lexer.specs.declared.token.Sort.TheVariants as sorts
 use Rattle.step_literals.specs.Bytes.{is_letter, is_word_byte, Each}
 use Rattle.step_literals.specs.Tokens.{TokenKind, IsKeyword, Spells, Allows, IsNext}
 use Rattle.step_literals.specs.Tokens as kinds
 use Rattle.step_literals.specs.Literals.{IsDecimal, IsText}
-use Rattle.step_lexis.specs.Front.{kind_of, HasValue}
-use Rattle.step_lexis.specs.Reading.{Reading}
-use Rattle.step_lexis.proofs.Standing.{stands}
+use Rattle.step_lexer.specs.Front.{kind_of, HasValue}
+use Rattle.step_lexer.specs.Reading.{Reading}
+use Rattle.step_lexer.proofs.Standing.{stands}
 use Rattle.step_structures.specs.Words.{Word, begins, ends, keyword, user_defined, scope, name, number, element, string, binary, mark, word_of, token, end_of_text, LocatedToken, Shows, shows_token, shows_fault, shows_end, ShowsAll}
 use Rattle.step_structures.specs.Trees.{Item, this, says, named, finish, Meets, MeetAll, is_said}
 use Rattle.step_literals.specs.Words.{upper}

@@ -3,17 +3,17 @@ use Rattle.std.proofs.Common.{◌≡◌, ℕ, ◌+◌, true, List, [], ◌∷◌
 use Rattle.std.proofs.lemmas.Bool.{false≢true}
 use Rattle.std.specs.Prelude.{codes}
 use Rattle.parsing.proofs.Leading.{leads_once}
-use Rattle.step_lexis.specs.declared.token.Mark.{Mark}
-use Rattle.step_lexis.specs.declared.token.Mark.TheVariants.{Open, Close, Comma, Semicolon}
+use Rattle.step_lexer.specs.declared.token.Mark.{Mark}
+use Rattle.step_lexer.specs.declared.token.Mark.TheVariants.{Open, Close, Comma, Semicolon}
 use Rattle.step_structures.specs.Words.{Word, keyword, name, string, ends, mark, Lookahead, token}
-use Rattle.step_structures.specs.Trees.{Tree, leaf, typed, group, Trees, none, one, Record, Form, internal, external, Row, Section, rows_of, Item, this, says, named, Meets, MeetAll, items_of_tree, items_of_more, items_of_list, items_of_record, items_of_partial_records, items_of_form, items_of_row, items_of_rows, items_of_records, items_of_header, items_of_heading, items_of_sections, items_of_end, section}
-use Rattle.step_structures.specs.Fits.{Rules, IsLeaf, FitsTree, FitsTrees, FitsRecord, FitsPartialRecords, FitsForm, FitsRows, FitsRecords, FitsHeader}
-use Rattle.step_structures.specs.Predict.{Symbol, Behind, Value, Items, Body, is_mark, next}
+use Rattle.step_structures.specs.Trees.{Tree, leaf, typed, group, Trees, none, one, Record, Form, internal, external, ExchangeRow, Section, rows_of, Item, this, says, named, Meets, MeetAll, items_of_tree, items_of_more, items_of_list, items_of_record, items_of_partial_records, items_of_form, items_of_row, items_of_rows, items_of_records, items_of_header, items_of_heading, items_of_sections, items_of_end, section}
+use Rattle.step_structures.specs.Fits.{StructureRules, IsLeaf, FitsTree, FitsTrees, FitsRecord, FitsPartialRecords, FitsForm, FitsRows, FitsRecords, FitsHeader}
+use Rattle.step_structures.specs.steps.Predict.{Symbol, Behind, Value, Items, Body, is_mark, next}
 use Rattle.step_structures.proofs.Meeting.{meet_as, meet_split, meets_this, same_this, same_name, same_keyword}
 use Rattle.step_structures.proofs.Passing.{Passing, names_after, fits_both, items_behind, regroup_sections, pass_tree, pass_list, pass_form, pass_heading, begins_tree}
 
 -- Parts that pass from the same symbols end at the same place.
-pub same_front : (rules : Rules) (ys : List Symbol) (a b c d : List Item) (ws : List Lookahead)
+pub same_front : (rules : StructureRules) (ys : List Symbol) (a b c d : List Item) (ws : List Lookahead)
     → Passing rules ys a [] → Passing rules ys c [] → MeetAll ws (a ++ b) → MeetAll ws (c ++ d) → (u v : List Lookahead)
     × MeetAll u a × MeetAll u c × MeetAll v b × MeetAll v d
 same_front rules ys a b c d ws f g h k =
@@ -58,7 +58,7 @@ first_tree x xs ws h = meet_as ws ((items_of_tree x ++ items_of_more xs) ++ this
     (this (mark Close) ∷ [])) h
 
 -- no parameter begins with a closing parenthesis
-not_empty : (rules : Rules) (x : Tree) (xs : Trees) (n : ℕ) (ws : List Lookahead) → FitsTree rules n x
+not_empty : (rules : StructureRules) (x : Tree) (xs : Trees) (n : ℕ) (ws : List Lookahead) → FitsTree rules n x
     → MeetAll ws (items_of_list (one x xs)) → MeetAll ws (this (mark Close) ∷ []) → ⊥
 not_empty rules x xs n [] f h k = k
 not_empty rules x xs n (s ∷ ws) f h k =
@@ -69,7 +69,7 @@ not_empty rules x xs n (s ∷ ws) f h k =
     false≢true (sym b.3 ∙ ap (is_mark Close) (sym e) ∙ close)
 
 mutual
-  pub same_tree : (x y : Tree) (rules : Rules) (n : ℕ) (ws : List Lookahead) → FitsTree rules n x → FitsTree rules n y
+  pub same_tree : (x y : Tree) (rules : StructureRules) (n : ℕ) (ws : List Lookahead) → FitsTree rules n x → FitsTree rules n y
       → MeetAll ws (items_of_tree x) → MeetAll ws (items_of_tree y) → x ≡ y
   same_tree (leaf w) y rules n [] f g h k = absurd h
   same_tree (typed a x) y rules n [] f g h k = absurd h
@@ -89,7 +89,7 @@ mutual
   same_tree (group xs) (typed b y) rules n (s ∷ ws) f g h k = absurd (word_not_mark s b Open k.0 h.0)
   same_tree (group xs) (group ys) rules n (s ∷ ws) f g h k = ap group (same_list xs ys rules (n + 1) ws f.1 g.1 h.1 k.1)
 
-  pub same_list : (xs ys : Trees) (rules : Rules) (n : ℕ) (ws : List Lookahead) → FitsTrees rules n xs
+  pub same_list : (xs ys : Trees) (rules : StructureRules) (n : ℕ) (ws : List Lookahead) → FitsTrees rules n xs
       → FitsTrees rules n ys → MeetAll ws (items_of_list xs) → MeetAll ws (items_of_list ys) → xs ≡ ys
   same_list none none rules n ws f g h k = refl
   same_list none (one y ys) rules n ws f g h k = absurd (not_empty rules y ys n ws g.0 k h)
@@ -102,7 +102,7 @@ mutual
       ap (λ z. one z xs) (same_tree x y rules n r.0 f.0 g.0 r.2 r.3) ∙ ap (one y) (same_more xs ys rules n r.1 f.1 g.1
       r.4 r.5)
 
-  pub same_more : (xs ys : Trees) (rules : Rules) (n : ℕ) (ws : List Lookahead) → FitsTrees rules n xs
+  pub same_more : (xs ys : Trees) (rules : StructureRules) (n : ℕ) (ws : List Lookahead) → FitsTrees rules n xs
       → FitsTrees rules n ys → MeetAll ws (items_of_more xs ++ this (mark Close) ∷ [])
       → MeetAll ws (items_of_more ys ++ this (mark Close) ∷ []) → xs ≡ ys
   same_more none none rules n ws f g h k = refl
@@ -119,7 +119,7 @@ mutual
       r.4 r.5)
 
 -- records, and what is behind them
-same_record : (x y : Record) (rules : Rules) (n : ℕ) (b d : List Item) (ws : List Lookahead) → FitsRecord rules n x
+same_record : (x y : Record) (rules : StructureRules) (n : ℕ) (b d : List Item) (ws : List Lookahead) → FitsRecord rules n x
     → FitsRecord rules n y → MeetAll ws (items_of_record x ++ b) → MeetAll ws (items_of_record y ++ d) → (x ≡ y)
     × (v : List Lookahead) × MeetAll v b × MeetAll v d
 same_record x y rules n b d [] f g h k = absurd h
@@ -135,7 +135,7 @@ regroup : (a b c : List Item) (ws : List Lookahead) → MeetAll ws ((a ++ b) ++ 
 regroup a b c ws h = meet_as ws ((a ++ b) ++ c) (a ++ (b ++ c)) (append_assoc a b c) h
 
 -- partial records, with the closing parenthesis
-same_partials : (xs ys : List Record) (rules : Rules) (before : List (List ℕ)) (ws : List Lookahead)
+same_partials : (xs ys : List Record) (rules : StructureRules) (before : List (List ℕ)) (ws : List Lookahead)
     → FitsPartialRecords rules before xs → FitsPartialRecords rules before ys
     → MeetAll ws (items_of_partial_records xs ++ this (mark Close) ∷ [])
     → MeetAll ws (items_of_partial_records ys ++ this (mark Close) ∷ []) → xs ≡ ys
@@ -156,7 +156,7 @@ same_partials (x ∷ xs) (y ∷ ys) rules before (s ∷ ws) f g h k =
 none_behind : (p : Record) (ws : List Lookahead) → MeetAll ws (items_of_record p) → MeetAll ws (items_of_record p ++ [])
 none_behind p ws h = meet_as ws (items_of_record p) (items_of_record p ++ []) (sym (append-nil (items_of_record p))) h
 
-same_form : (x y : Form) (rules : Rules) (ws : List Lookahead) → FitsForm rules x → FitsForm rules y
+same_form : (x y : Form) (rules : StructureRules) (ws : List Lookahead) → FitsForm rules x → FitsForm rules y
     → MeetAll ws (items_of_form x) → MeetAll ws (items_of_form y) → x ≡ y
 same_form (internal x) (internal y) rules ws f g h k = ap internal (same_record x y rules 0 [] [] ws f g
     (none_behind x ws h) (none_behind y ws k)).0
@@ -174,7 +174,7 @@ both_first i j a b [] h k = absurd h
 both_first i j a b (s ∷ ws) h k = (s, ws, h.0, k.0, h.1, k.1)
 
 -- instances, and what is behind the word that ends them
-same_rows : (xs ys : List Row) (rules : Rules) (before : List ℕ) (b d : List Item) (ws : List Lookahead)
+same_rows : (xs ys : List ExchangeRow) (rules : StructureRules) (before : List ℕ) (b d : List Item) (ws : List Lookahead)
     → FitsRows rules before xs → FitsRows rules before ys → MeetAll ws (items_of_rows xs ++ says (codes "ENDSEC") ∷ b)
     → MeetAll ws (items_of_rows ys ++ says (codes "ENDSEC") ∷ d)
     → (xs ≡ ys) × (v : List Lookahead) × MeetAll v b × MeetAll v d
@@ -240,7 +240,7 @@ first_section x xs ws h = meet_as ws ((items_of_heading x.heading ++ this (mark 
     ++ items_behind xs)) (sym (regroup_sections x xs)) h
 
 -- the data sections, with the end of the file
-pub same_rest : (xs ys : List Section) (rules : Rules) (names : List ℕ) (ws : List Lookahead)
+pub same_rest : (xs ys : List Section) (rules : StructureRules) (names : List ℕ) (ws : List Lookahead)
     → FitsRows rules names (rows_of xs) → FitsRows rules names (rows_of ys)
     → MeetAll ws (items_of_sections xs ++ items_of_end) → MeetAll ws (items_of_sections ys ++ items_of_end) → xs ≡ ys
 same_rest [] [] rules names ws f g h k = refl
@@ -261,12 +261,12 @@ same_rest (x ∷ xs) (y ∷ ys) rules names (s ∷ ws) f g h k =
     let lines = same_rows x.rows y.rows rules names b d r.1 a.0 c.0 r.4 r.5 in
     let m = both_first semi semi (items_of_sections xs ++ items_of_end) (items_of_sections ys ++ items_of_end) lines.1
     lines.2 lines.3 in
-    let G : List Row → Type 0 = λ l. FitsRows rules (names_after names l) (rows_of ys) in
+    let G : List ExchangeRow → Type 0 = λ l. FitsRows rules (names_after names l) (rows_of ys) in
     let more = same_rest xs ys rules (names_after names x.rows) m.1 a.1 (subst G (sym lines.0) c.1) m.4 m.5 in
     (λ i. record { heading = heading i; rows = lines.0 i } ∷ more i)
 
 -- the records of the header, with its end
-same_records : (xs ys : List Record) (rules : Rules) (ws : List Lookahead) → FitsRecords rules xs → FitsRecords rules ys
+same_records : (xs ys : List Record) (rules : StructureRules) (ws : List Lookahead) → FitsRecords rules xs → FitsRecords rules ys
     → MeetAll ws (items_of_records xs ++ section (codes "ENDSEC"))
     → MeetAll ws (items_of_records ys ++ section (codes "ENDSEC")) → xs ≡ ys
 same_records [] [] rules ws f g h k = refl
@@ -293,7 +293,7 @@ same_records (x ∷ xs) (y ∷ ys) rules (s ∷ o ∷ ws) f g h k =
     behind (s ∷ ws) h k go = go ws h.1 k.1
 
 -- the header
-pub same_header : (xs ys : List Record) (rules : Rules) (ws : List Lookahead) → FitsHeader rules xs
+pub same_header : (xs ys : List Record) (rules : StructureRules) (ws : List Lookahead) → FitsHeader rules xs
     → FitsHeader rules ys
     → MeetAll ws (items_of_header xs) → MeetAll ws (items_of_header ys) → xs ≡ ys
 same_header xs ys rules [] f g h k = absurd h
@@ -303,7 +303,7 @@ same_header xs ys rules (a ∷ b ∷ c ∷ []) f g h k = absurd h.1.1.1
 same_header xs ys rules (a ∷ b ∷ c ∷ d ∷ ws) f g h k = same_records xs ys rules ws f.0 g.0 h.1.1.1.1 k.1.1.1.1
 
 -- the first two records of the header
-pub same_two : (p q x y : Record) (rules : Rules) (b d : List Item) (ws : List Lookahead)
+pub same_two : (p q x y : Record) (rules : StructureRules) (b d : List Item) (ws : List Lookahead)
     → FitsRecords rules (p ∷ q ∷ []) → FitsRecords rules (x ∷ y ∷ [])
     → MeetAll ws (items_of_record p ++ this (mark Semicolon) ∷ (items_of_record q ++ this (mark Semicolon) ∷ b))
     → MeetAll ws (items_of_record x ++ this (mark Semicolon) ∷ (items_of_record y ++ this (mark Semicolon) ∷ d))
@@ -322,7 +322,7 @@ same_two p q x y rules b d ws f g h k =
     semicolon b d [] h k = absurd h
     semicolon b d (s ∷ ws) h k = (ws, h.1, k.1)
 
--- .. and the third
-pub same_third : (r z : Record) (rules : Rules) (ws : List Lookahead) → FitsRecord rules 0 r → FitsRecord rules 0 z
+-- the third record of the header is the same
+pub same_third : (r z : Record) (rules : StructureRules) (ws : List Lookahead) → FitsRecord rules 0 r → FitsRecord rules 0 z
     → MeetAll ws (items_of_record r) → MeetAll ws (items_of_record z) → r ≡ z
 same_third r z rules ws f g h k = (same_record r z rules 0 [] [] ws f g (none_behind r ws h) (none_behind z ws k)).0

@@ -4,12 +4,12 @@ use Rattle.parsing.proofs.Wider.{IsWider}
 use Rattle.step_structures.specs.declared.fault.FaultKind.{FaultKind}
 use Rattle.step_structures.specs.declared.fault.FaultKind.TheVariants as kinds
 use Rattle.step_structures.specs.declared.fault.LeftOut.TheVariants as left_out
-use Rattle.step_structures.specs.Fits.{Rules}
-use Rattle.step_structures.specs.Predict.{Symbol, Next, next}
+use Rattle.step_structures.specs.Fits.{StructureRules}
+use Rattle.step_structures.specs.steps.Predict.{Symbol, Next, next}
 use Rattle.step_structures.proofs.Looser.{IsLooser}
 use Rattle.step_structures.proofs.Forms.{Form, fixed, by_level, by_section, by_head, by_keyword, by_name, form}
 
-pub looser_self : (rules : Rules) → IsLooser rules rules
+pub looser_self : (rules : StructureRules) → IsLooser rules rules
 looser_self rules = record {
   levels = omega arith;
   instances = omega arith;
@@ -38,7 +38,7 @@ keeps_rule false true c k v v' zs h f e = let g : true ≡ false = h refl in cc
 keeps_rule false false c k v v' zs h f e = f e
 
 -- what may stand may stand under looser rules
-pub wider : (rules w : Rules) → IsLooser rules w → IsWider (next rules) (next w)
+pub wider : (rules w : StructureRules) → IsLooser rules w → IsWider (next rules) (next w)
 wider rules w i y s zs e = by (form y s)
   where
     by : Form y s → next w y s ≡ Ok zs

@@ -8,21 +8,21 @@ use Rattle.std.proofs.lemmas.Fmt.{decimal_is_IsNumeral}
 use Rattle.std.proofs.lemmas.Str.Parse.{digit_from_value}
 use Rattle.std.proofs.lemmas.Slice.Eq.{bytes_eq-Decides}
 use Rattle.std.proofs.Math.ListN.{drop_of_length-le}
-use Rattle.step_lexis.specs.declared.token.Mark.{Mark}
-use Rattle.step_lexis.specs.declared.token.Mark.TheVariants.{Open, Close, Comma, Semicolon, Equals, Dollar, Asterisk}
-use Rattle.step_lexis.specs.declared.token.Sort.{Sort}
-use Rattle.step_lexis.specs.declared.token.Sort.TheVariants as sorts
+use Rattle.step_lexer.specs.declared.token.Mark.{Mark}
+use Rattle.step_lexer.specs.declared.token.Mark.TheVariants.{Open, Close, Comma, Semicolon, Equals, Dollar, Asterisk}
+use Rattle.step_lexer.specs.declared.token.Sort.{Sort}
+use Rattle.step_lexer.specs.declared.token.Sort.TheVariants as sorts
 use Rattle.step_literals.specs.Bytes.{is_digit, Each}
 use Rattle.step_literals.specs.Tokens.{TokenKind, is_mark, IsKeyword, Spells, Allows, IsNext}
 use Rattle.step_literals.specs.Tokens as kinds
 use Rattle.step_literals.specs.Literals.{IsDecimal}
-use Rattle.step_lexis.specs.Layout.{IsLayout, NoBlank}
-use Rattle.step_lexis.specs.Layout as blanks
-use Rattle.step_lexis.specs.Front.{kind_of, mark_byte, HasValue}
-use Rattle.step_lexis.specs.Reading.{Reading, IsAtEnd}
-use Rattle.step_lexis.proofs.Closers.{is_closer, next_before_closer, no_blank_at_end}
-use Rattle.step_lexis.proofs.FrontLemmas.{next_mark}
-use Rattle.step_lexis.proofs.Standing.{Stands, token_at, takes}
+use Rattle.step_lexer.specs.Layout.{IsLayout, NoBlank}
+use Rattle.step_lexer.specs.Layout as blanks
+use Rattle.step_lexer.specs.Front.{kind_of, mark_byte, HasValue}
+use Rattle.step_lexer.specs.Reading.{Reading, IsAtEnd}
+use Rattle.step_lexer.proofs.Closers.{is_closer, next_before_closer, no_blank_at_end}
+use Rattle.step_lexer.proofs.FrontLemmas.{next_mark}
+use Rattle.step_lexer.proofs.Standing.{Stands, token_at, takes}
 use Rattle.step_structures.specs.Words.{Word, begins, ends, keyword, user_defined, scope, name, number, element, string, binary, mark, word_of, token, located, located_end, shows_token, shows_end}
 use Rattle.step_structures.specs.Trees.{Item, this, says, named, finish, Meets, is_said}
 use Rattle.step_structures.specs.Texts.{Reads}

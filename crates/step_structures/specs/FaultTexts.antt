@@ -1,4 +1,4 @@
--- The words for what is wrong with a text.
+-- The texts that faults are reported with.
 use Rattle.std.specs.Prelude.{ℕ, List, codes}
 use Rattle.step_literals.specs.declared.fault.Flaw.{Flaw}
 use Rattle.step_literals.specs.declared.fault.Flaw.TheVariants.{BadToken, UnendedString, BadEscape, NumberTooLong, NameTooLarge}

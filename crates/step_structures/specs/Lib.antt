@@ -2,6 +2,8 @@ pub mod Words
 pub mod Trees
 pub mod Fits
 pub mod Texts
-pub mod Predict
 pub mod Normal
 pub mod FaultTexts
+pub mod MergedTexts
+pub mod MergedTextLaws
+pub mod steps

@@ -1,9 +1,9 @@
--- What exchange structure a text reads as, and the fault that shows first where it reads as none
--- (ISO 10303-21, 5 to 11).
+-- Which exchange structure a text reads as, and the first fault of a text that reads as none (ISO 10303-21, 5
+-- to 11).
 use Rattle.std.specs.Prelude.{◌≡◌, ℕ, ◌+◌, ◌-◌, true, false, List, [], ◌∷◌, ◌++◌, take, drop, codes, ◌⊎◌}
 use Rattle.parsing.specs.Tables.{lookaheads}
-use Rattle.step_lexis.specs.declared.token.Mark.TheVariants.{Semicolon}
-use Rattle.step_lexis.specs.Reading.{Reading, Reaches, start}
+use Rattle.step_lexer.specs.declared.token.Mark.TheVariants.{Semicolon}
+use Rattle.step_lexer.specs.Reading.{Reading, Reaches, start}
 use Rattle.step_structures.specs.declared.fault.FaultKind.{FaultKind}
 use Rattle.step_structures.specs.declared.fault.FaultKind.TheVariants as kinds
 use Rattle.step_structures.specs.declared.fault.LeftOut.{LeftOut}
@@ -12,14 +12,14 @@ use Rattle.step_structures.specs.declared.fault.TextFault.TheVariants as faults
 use Rattle.step_structures.specs.declared.fault.LeftOut.TheVariants.{UserDefined, Scope, Anchor, Reference, Signature, TooMany}
 use Rattle.step_structures.specs.Words.{keyword, user_defined, scope, mark, Lookahead, token, flawed, LocatedToken, Shows, ShowsAll}
 use Rattle.step_structures.specs.Trees.{Record, File, Item, this, MeetAll, is_said, items_of_record, items_of_records, items_of_start, items_of_header, items_of_sections, items_of_end, items_of_file}
-use Rattle.step_structures.specs.Fits.{Rules, the_rules, FitsFile, FitsHeader, FitsRecords, IsHeader, HasSchema, NamesSchema, Where}
+use Rattle.step_structures.specs.Fits.{StructureRules, the_rules, FitsFile, FitsHeader, FitsRecords, IsHeader, HasSchema, NamesSchema, Where}
 
--- from one place of a text to another stands what the items ask for
+-- the text between one reading and another has the tokens that the items require
 abbrev pub Reads : Reading → List Item → Reading → Type 0
 Reads old items new = (s : List LocatedToken) × ShowsAll old s new × MeetAll (lookaheads s) items
 
--- The text reads as this structure, and its header bytes, from the first token through the semicolon of the
--- header's end, are these.
+-- The text reads as this structure. Its header bytes are those from the first token to the semicolon that ends
+-- the header.
 pub record ReadsAs (text header_bytes : List ℕ) (x : File) : Type 0 where
   pub fits : FitsFile the_rules x
   pub schema : HasSchema x.header
@@ -31,29 +31,29 @@ pub record ReadsAs (text header_bytes : List ℕ) (x : File) : Type 0 where
   pub begins : Reaches (start text) first
   pub header_bytes_are : header_bytes ≡ take (headed.place - first) (drop first text)
 
--- some text reads as this structure, and its header bytes are these
+-- some text reads as this structure, with these header bytes
 abbrev pub IsRead : List ℕ → File → Type 0
 IsRead header_bytes x = (text : List ℕ) × ReadsAs text header_bytes x
 
--- the header up to its third record, whose semicolon is still to come
+-- the header up to its third record, without the semicolon of that
 abbrev pub items_of_opening : Record → Record → Record → List Item
 items_of_opening p q r = items_of_start ++ items_of_records (p ∷ q ∷ []) ++ items_of_record r
 
--- once the semicolon of the three records stands among the tokens, the third one names one schema
-abbrev pub HoldsSchema : Rules → List Lookahead → Type 0
+-- if the tokens include the semicolon of the third record, the third record names exactly one schema
+abbrev pub HoldsSchema : StructureRules → List Lookahead → Type 0
 HoldsSchema rules s = (p q r : Record) (first rest : List Lookahead) → s ≡ first ++ rest
     → FitsRecords rules (p ∷ q ∷ r ∷ []) → IsHeader (p ∷ q ∷ r ∷ [])
     → MeetAll first (items_of_opening p q r ++ this (mark Semicolon) ∷ []) → NamesSchema r.values
 
--- the tokens so far are a viable prefix: some structure's tokens begin with them
-pub record IsViablePrefix (rules : Rules) (s : List Lookahead) : Type 0 where
+-- the tokens so far are a viable prefix: the tokens of some structure begin with them
+pub record IsViablePrefix (rules : StructureRules) (s : List Lookahead) : Type 0 where
   pub rest : List Lookahead
   pub file : File
   pub fits : FitsFile rules file
   pub tokens : MeetAll (s ++ rest) (items_of_file file)
   pub schema : Where rules.headed (HoldsSchema rules s)
 
--- the tokens so far are a header, or a header and data sections, or a structure but for the end of the text
+-- the tokens so far are a header; a header and data sections; or a structure without the end of the text
 abbrev pub EndsHeader : List Lookahead → Type 0
 EndsHeader s = (header : List Record) × FitsHeader the_rules header × MeetAll s (items_of_header header)
 
@@ -69,11 +69,11 @@ abbrev pub IsWord : List ℕ → Lookahead → Type 0
 IsWord word (token (keyword text)) = is_said word text ≡ true
 IsWord word _ = ⊥
 
--- DATA or the end of the file is looked for: behind the header, and behind each data section
+-- DATA or the end of the file is expected: after the header, or after a data section
 abbrev pub IsBetween : List Lookahead → Type 0
 IsBetween s = EndsHeader s ⊎ EndsData s
 
--- a part of the standard that isn't read begins with this token
+-- this token begins a part of the standard that isn't supported
 abbrev pub IsLeftOut : List Lookahead → Lookahead → LeftOut → Type 0
 IsLeftOut before (token (user_defined text)) UserDefined = Unit {0}
 IsLeftOut before (token scope) Scope = Unit {0}
@@ -82,22 +82,23 @@ IsLeftOut before at Reference = IsWord (codes "REFERENCE") at × IsBetween befor
 IsLeftOut before at Signature = IsWord (codes "SIGNATURE") at × (IsBetween before ⊎ EndsFile before)
 IsLeftOut before at _ = ⊥
 
-abbrev pub more_levels : Rules
+abbrev pub more_levels : StructureRules
 more_levels = record the_rules { levels = the_rules.levels + 1 }
 
--- one more instance, and one more data section; a token begins one of them at most
-abbrev pub more_parts : Rules
+-- the rules that allow one more instance and one more data section; a token begins at most one of them
+abbrev pub more_parts : StructureRules
 more_parts = record the_rules { instances = the_rules.instances + 1; sections = the_rules.sections + 1 }
 
--- the same, where names may stand twice: a name that stands already is that fault also where there are too many
-abbrev pub repeated : Rules
+-- The rules that also allow repeated names. So a repeated name is reported as such even if there are too many
+-- instances.
+abbrev pub repeated : StructureRules
 repeated = record more_parts { distinct = false }
 
-abbrev pub unheaded : Rules
+abbrev pub unheaded : StructureRules
 unheaded = record the_rules { headed = false }
 
--- A token that can't stand behind those before it has this kind of fault: one that a rule rules out would
--- stand without the rule.
+-- This kind of fault applies to a token that can't follow those before it. A kind that a rule causes applies if
+-- the token could follow without the rule.
 abbrev pub FaultApplies : List Lookahead → Lookahead → FaultKind → Type 0
 FaultApplies before at (kinds.Token flaw) = at ≡ flawed flaw
 FaultApplies before at kinds.DuplicateName = IsViablePrefix repeated (before ++ at ∷ [])
@@ -108,12 +109,13 @@ FaultApplies before at kinds.TooDeep = IsViablePrefix more_levels (before ++ at 
 FaultApplies before at kinds.HeaderFault = IsViablePrefix unheaded (before ++ at ∷ [])
 FaultApplies before at kinds.Expected = Unit {0}
 
--- .. and another token is expected only where no other kind of fault applies
+-- the kind of the fault at a token: Expected only if no other kind applies
 abbrev pub IsKind : List Lookahead → Lookahead → FaultKind → Type 0
 IsKind before at kinds.Expected = (kind : FaultKind) → (kind ≡ kinds.Expected → ⊥) → FaultApplies before at kind → ⊥
 IsKind before at kind = FaultApplies before at kind
 
--- the place of a token, but for the parameters of FILE_SCHEMA: that of its keyword
+-- The byte offset of a fault: that of the token, or that of the keyword of FILE_SCHEMA if the fault is in its
+-- parameters.
 pub data IsPlace (before : List LocatedToken) (at : LocatedToken) (kind : FaultKind) (place : ℕ) : Type 0 where
   own_place : (kind ≡ kinds.HeaderFault → at.lookahead ≡ token (mark Semicolon) → ⊥) → place ≡ at.place
       → IsPlace before at kind place
@@ -123,7 +125,7 @@ pub data IsPlace (before : List LocatedToken) (at : LocatedToken) (kind : FaultK
       → MeetAll (lookaheads earlier) (items_of_start ++ items_of_records (p ∷ q ∷ [])) → place ≡ key.place
       → IsPlace before at kind place
 
--- The fault that shows first: what stands there is the first with which the tokens so far are no viable prefix.
+-- The first fault: its token is the first one with which the tokens so far are no viable prefix.
 pub record IsFirstFault (text : List ℕ) (kind : FaultKind) (place : ℕ) : Type 0 where
   pub before : List LocatedToken
   pub at : LocatedToken
@@ -132,13 +134,13 @@ pub record IsFirstFault (text : List ℕ) (kind : FaultKind) (place : ℕ) : Typ
   pub read : ShowsAll (start text) before here
   pub shown : Shows here at next
   pub viable : IsViablePrefix the_rules (lookaheads before)
-  -- they aren't a whole structure's
+  -- the tokens before aren't those of a whole structure
   pub unended : (x : File) → FitsFile the_rules x → MeetAll (lookaheads before) (items_of_file x) → ⊥
   pub refused : IsViablePrefix the_rules (lookaheads (before ++ at ∷ [])) → ⊥
   pub kind_is : IsKind (lookaheads before) at.lookahead kind
   pub place_is : IsPlace before at kind place
 
--- A fault of a text is its first one; memory may always run out.
+-- A fault of a text is its first fault. Memory may always run out.
 abbrev pub IsFaultOf : List ℕ → TextFault → Type 0
 IsFaultOf text faults.Memory = Unit {0}
 IsFaultOf text (faults.Fault kind place) = IsFirstFault text kind place
@@ -147,7 +149,7 @@ abbrev pub IsMemory : TextFault → Type 0
 IsMemory faults.Memory = Unit {0}
 IsMemory (faults.Fault kind place) = ⊥
 
--- A text reads as one structure at most.
+-- A text reads as at most one structure.
 abbrev pub ReadsOnce : Type 0
 ReadsOnce = (text header_bytes other : List ℕ) (x y : File) → ReadsAs text header_bytes x → ReadsAs text other y
     → (header_bytes ≡ other) × (x ≡ y)
@@ -157,7 +159,7 @@ abbrev pub ReadsWithoutFault : Type 0
 ReadsWithoutFault = (text header_bytes : List ℕ) (x : File) (kind : FaultKind) (place : ℕ) → ReadsAs text header_bytes x
     → IsFirstFault text kind place → ⊥
 
--- A text has one first fault at most: one kind, at one place.
+-- A text has at most one first fault: one kind, at one byte offset.
 abbrev pub FaultsOnce : Type 0
 FaultsOnce = (text : List ℕ) (kind other : FaultKind) (place elsewhere : ℕ) → IsFirstFault text kind place
     → IsFirstFault text other elsewhere → (kind ≡ other) × (place ≡ elsewhere)

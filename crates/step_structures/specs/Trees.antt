@@ -1,7 +1,7 @@
--- Exchange structures as trees, and the tokens that they are written out as (ISO 10303-21, 5.3, 8 and 11).
+-- Exchange structures as trees, and the tokens of a tree (ISO 10303-21, 5.3, 8 and 11).
 use Rattle.std.specs.Prelude.{◌≡◌, ℕ, Bool, true, List, [], ◌∷◌, ◌++◌, Option, Some, None, codes}
 use Rattle.std.specs.Str.{str_eq_ignore_ascii_case}
-use Rattle.step_lexis.specs.declared.token.Mark.TheVariants.{Open, Close, Comma, Semicolon, Equals}
+use Rattle.step_lexer.specs.declared.token.Mark.TheVariants.{Open, Close, Comma, Semicolon, Equals}
 use Rattle.step_structures.specs.Words.{Word, keyword, name, string, mark, begins, ends, Lookahead, token, end_of_text}
 
 -- a parameter: one token, a typed parameter, or a list
@@ -25,14 +25,14 @@ pub data Form : Type 0 where
   external : List Record → Form
 
 -- an instance
-pub record Row : Type 0 where
+pub record ExchangeRow : Type 0 where
   pub name : ℕ
   pub form : Form
 
--- a data section: its name and that of its schema, as they are spelt, where it says them, and its instances
+-- a data section: its instances, and its name and the name of its schema as they are spelt, if it has them
 pub record Section : Type 0 where
   pub heading : Option (List ℕ × List ℕ)
-  pub rows : List Row
+  pub rows : List ExchangeRow
 
 -- an exchange structure: the records of the header, and the data sections
 pub record File : Type 0 where
@@ -40,13 +40,13 @@ pub record File : Type 0 where
   pub sections : List Section
 
 -- the instances of sections, in order
-abbrev pub rows_of : List Section → List Row
+abbrev pub rows_of : List Section → List ExchangeRow
 rows_of [] = []
 rows_of (x ∷ xs) = x.rows ++ rows_of xs
 
--- what a tree asks for at a place of a text
+-- what a tree requires of a token of a text
 pub data Item : Type 0 where
-  -- this very token
+  -- exactly this token
   this : Word → Item
   -- this keyword, whatever the case of its letters
   says : List ℕ → Item
@@ -66,7 +66,7 @@ Meets (token (name n text)) (named m) = n ≡ m
 Meets end_of_text finish = Unit {0}
 Meets _ _ = ⊥
 
--- these are what the items ask for, one after another
+-- the lookaheads are what the items require, one after another
 abbrev pub MeetAll : List Lookahead → List Item → Type 0
 MeetAll [] [] = Unit {0}
 MeetAll (s ∷ rest) (i ∷ items) = Meets s i × MeetAll rest items
@@ -103,31 +103,31 @@ abbrev pub items_of_form : Form → List Item
 items_of_form (internal p) = items_of_record p
 items_of_form (external ps) = this (mark Open) ∷ (items_of_partial_records ps ++ this (mark Close) ∷ [])
 
-abbrev pub items_of_row : Row → List Item
+abbrev pub items_of_row : ExchangeRow → List Item
 items_of_row r = named r.name ∷ this (mark Equals) ∷ (items_of_form r.form ++ this (mark Semicolon) ∷ [])
 
-abbrev pub items_of_rows : List Row → List Item
+abbrev pub items_of_rows : List ExchangeRow → List Item
 items_of_rows [] = []
 items_of_rows (r ∷ rs) = items_of_row r ++ items_of_rows rs
 
--- each record of the header with a semicolon behind it
+-- each record of the header, followed by a semicolon
 abbrev pub items_of_records : List Record → List Item
 items_of_records [] = []
 items_of_records (p ∷ ps) = items_of_record p ++ this (mark Semicolon) ∷ items_of_records ps
 
--- a keyword and a semicolon: what begins the header, and what ends it or a data section
+-- a keyword and a semicolon: the beginning of the header, or the end of the header or of a data section
 abbrev pub section : List ℕ → List Item
 section word = says word ∷ this (mark Semicolon) ∷ []
 
--- up to the first record of the header
+-- the tokens before the first record of the header
 abbrev pub items_of_start : List Item
 items_of_start = this begins ∷ this (mark Semicolon) ∷ section (codes "HEADER")
 
--- the header, with what begins the file
+-- the header, including the beginning of the file
 abbrev pub items_of_header : List Record → List Item
 items_of_header ps = items_of_start ++ items_of_records ps ++ section (codes "ENDSEC")
 
--- the name of a section and that of its schema
+-- the name of a section and the name of its schema
 abbrev pub items_of_heading : Option (List ℕ × List ℕ) → List Item
 items_of_heading None = []
 items_of_heading (Some h) = this (mark Open) ∷ this (string h.0) ∷ this (mark Comma) ∷ this (mark Open)

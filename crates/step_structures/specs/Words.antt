@@ -2,15 +2,15 @@
 use Rattle.std.specs.Prelude.{◌≡◌, ℕ, List, length}
 use Rattle.parsing.specs.Tables as tables
 use Rattle.parsing.specs.Lexers as lexers
-use Rattle.step_lexis.specs.declared.token.Mark.{Mark}
-use Rattle.step_lexis.specs.declared.token.Sort.{Sort}
-use Rattle.step_lexis.specs.declared.token.Sort.TheVariants as sorts
-use Rattle.step_lexis.specs.declared.token.Token.{Token}
+use Rattle.step_lexer.specs.declared.token.Mark.{Mark}
+use Rattle.step_lexer.specs.declared.token.Sort.{Sort}
+use Rattle.step_lexer.specs.declared.token.Sort.TheVariants as sorts
+use Rattle.step_lexer.specs.declared.token.Token.{Token}
 use Rattle.step_literals.specs.declared.fault.Flaw.{Flaw}
 use Rattle.step_literals.specs.declared.fault.TextFault.{TextFault}
-use Rattle.step_lexis.specs.Reading.{Reading, Takes, IsAtEnd, IsFaulty}
+use Rattle.step_lexer.specs.Reading.{Reading, Takes, IsAtEnd, IsFaulty}
 
--- a token without its place; literals are as they are spelt, an element is what stands between its dots
+-- A token without its byte offset. Literals keep their spelling; an element is the word between its dots.
 pub data Word : Type 0 where
   begins : Word
   ends : Word
@@ -24,7 +24,7 @@ pub data Word : Type 0 where
   binary : List ℕ → Word
   mark : Mark → Word
 
--- the word that a token of this kind is, which is spelt like this
+-- the word of a token of this sort with this spelling
 abbrev pub word_of : Sort → List ℕ → Word
 word_of sorts.Begin text = begins
 word_of sorts.End text = ends
@@ -39,13 +39,13 @@ word_of (sorts.String s) text = string s.text.now
 word_of (sorts.Binary b) text = binary b.text.now
 word_of (sorts.Mark m) text = mark m
 
--- what may stand at a place of a text: a token, something that is none, or the end
+-- what a text may have at a byte offset: a token, a flaw, or the end
 pub data Lookahead : Type 0 where
   token : Word → Lookahead
   flawed : Flaw → Lookahead
   end_of_text : Lookahead
 
--- what stands in a text, and how many bytes come before it, or before its fault
+-- a lookahead of a text, and the number of bytes before it, or before its fault
 abbrev pub LocatedToken : Type 0
 LocatedToken = tables.LocatedToken Lookahead
 
@@ -58,7 +58,7 @@ located_fault f = record { lookahead = flawed f.flaw; place = f.place }
 abbrev pub located_end : Reading → LocatedToken
 located_end r = record { lookahead = end_of_text; place = length r.text }
 
--- this is what a lexer shows next, and how far the text is read then
+-- what a lexer shows next, and how far the text is read then
 pub data Shows (old : Reading) (s : LocatedToken) (new : Reading) : Type 0 where
   shows_token : (t : Token) → Takes old t new → s ≡ located t → Shows old s new
   shows_fault : (f : TextFault) → IsFaulty old f new → s ≡ located_fault f → Shows old s new

@@ -9,7 +9,7 @@ use std::{error, fmt};
 use step_literals::fault::Flaw;
 use thiserror::Error;
 
-/// Parts of the standard that are left out, and limits.
+/// Parts of the standard that aren't supported, and limits.
 #[derive(Clone, Copy, Debug, PartialEq, Eq)]
 pub enum LeftOut {
     /// A user-defined keyword, `!NAME`.
@@ -22,32 +22,31 @@ pub enum LeftOut {
     Reference,
     /// A SIGNATURE section.
     Signature,
-    /// An instance beyond 2^32 - 1, or a data section beyond as many.
+    /// More than 2^32 - 1 instances, or more than 2^32 - 1 data sections.
     TooMany,
     /// More than 2^40 bytes.
     TooLarge,
 }
 
-/// What is wrong.
+/// The kinds of faults of a text.
 #[derive(Clone, Copy, Debug, PartialEq, Eq)]
 pub enum FaultKind {
-    /// No token within the limits stands here (E1 to E5).
+    /// There is no token within the limits here (E1 to E5).
     Token(Flaw),
-    /// Another token was expected.
+    /// A token that can't be here; another one was expected.
     Expected,
-    /// A name of an instance that another one has, or a keyword that stands twice in an external
-    /// record.
+    /// An instance name that occurs already, or a keyword that occurs twice in an external record.
     DuplicateName,
-    /// Something that is left out.
+    /// A part of the standard that isn't supported, or a limit that is exceeded.
     LeftOut(LeftOut),
     /// More than 64 parentheses open at once.
     TooDeep,
-    /// One of the first three records of the header is another one or is missing, or FILE_SCHEMA
-    /// doesn't name one schema.
+    /// One of the first three records of the header is missing or has another keyword, or
+    /// FILE_SCHEMA doesn't name exactly one schema.
     HeaderFault,
 }
 
-// The code and the word for a flaw.
+// Returns the code and the name of a flaw.
 fn flaw_name(flaw: Flaw) -> &'static str
     ensures { result.now ≡ flaw_text flaw }
 {
@@ -60,7 +59,7 @@ fn flaw_name(flaw: Flaw) -> &'static str
     }
 }
 
-// The code and the words for what is left out.
+// Returns the code and the names of what is left out.
 fn left_out_name(part: LeftOut) -> &'static str
     ensures { result.now ≡ left_out_text part }
 {
@@ -76,7 +75,7 @@ fn left_out_name(part: LeftOut) -> &'static str
 }
 
 impl FaultKind {
-    /// Its code and its words, as `E6 Expected`.
+    /// Returns the code and the name of the fault, such as `E6 Expected`.
     pub fn name(self) -> &'static str
         ensures { result.now ≡ kind_text self }
     {
@@ -101,13 +100,13 @@ impl fmt::Display for FaultKind {
 
 impl error::Error for FaultKind {}
 
-/// Why a text is not read: its first fault, with the number of bytes before it, or want of memory.
+/// Why a text is not read: its first fault with the number of bytes before it, or out of memory.
 #[derive(Clone, Copy, Debug, PartialEq, Eq, Error)]
 pub enum TextFault {
     /// Memory ran out.
     #[error("memory")]
     Memory,
-    /// The fault that shows first.
+    /// The first fault of the text.
     #[error("{kind} at byte {place}")]
     Fault { kind: FaultKind, place: u64 },
 }

@@ -1,9 +1,9 @@
-//! Laws of the definitions alone.
+//! Laws of exchange structures and their normal texts.
 
 ghost use Rattle.step_structures.specs.Normal.{NormalReadsAgain, NormalStays};
 ghost use Rattle.step_structures.specs.Texts.{FaultsOnce, ReadsOnce, ReadsOrFails, ReadsWithoutFault};
 
-/// A text reads as one exchange structure at most.
+/// A text reads as at most one exchange structure.
 pub fn a_text_reads_once()
     ensures { ReadsOnce }
 {}
@@ -13,7 +13,7 @@ pub fn what_reads_has_no_fault()
     ensures { ReadsWithoutFault }
 {}
 
-/// A text has one first fault at most.
+/// A text has at most one first fault.
 pub fn a_text_has_one_first_fault()
     ensures { FaultsOnce }
 {}
@@ -23,14 +23,14 @@ pub fn a_text_reads_or_has_a_fault()
     ensures { ReadsOrFails }
 {}
 
-/// The normal text of what a text reads as reads as the same: the same header bytes, the same
-/// sections with their headings, and in them the same instances, with only the case of words and
-/// the spelling of names changed.
+/// If a text reads as a structure, so does the structure's normal text. It has the same header
+/// bytes, the same sections and headings, and the same instances in them. Only the case of words
+/// and the spelling of names changes.
 pub fn normal_text_reads_again()
     ensures { NormalReadsAgain }
 {}
 
-/// The normal text of what a normal text reads as is that text.
+/// A normal text is its own normal text.
 pub fn normal_text_stays()
     ensures { NormalStays }
 {}

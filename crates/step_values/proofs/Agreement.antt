@@ -1,8 +1,9 @@
 -- Agreement of values: it grows with the test on references, and is an equivalence where the test is.
 use Rattle.std.proofs.Common.{◌≡◌, ℕ, Bool, true, refl, sym, ◌∙◌, eqb-true, eq-eqb}
 use Rattle.std.specs.Prelude.{◌==◌}
-use Rattle.step_values.specs.Values.{Value, leaf, reference, typed, sequence, bag, Values, none, more, IsReordering, unchanged, kept, swapped, joined, Agree, AgreeEach}
+use Rattle.step_values.specs.Values.{Value, leaf, reference, typed, sequence, bag, Values, none, more, is_crowd, IsReordering, unchanged, kept, swapped, joined, Agree, AgreeEach}
 use Rattle.step_values.specs.References.{EachReference, EachReferenceOf}
+use Rattle.step_values.proofs.Crowds.{made, sized, both_sized, moved, bags_alike}
 
 mutual
   pub agree_grows : (l m : ℕ → ℕ → Bool) → ((y z : ℕ) → l y z ≡ true → m y z ≡ true) → (v w : Value) → Agree l v w
@@ -11,7 +12,7 @@ mutual
   agree_grows l m f (reference y) (reference z) h = f y z h
   agree_grows l m f (typed n v) (typed k w) h = (h.0, agree_grows l m f v w h.1)
   agree_grows l m f (sequence vs) (sequence ws) h = agree_each_grows l m f vs ws h
-  agree_grows l m f (bag vs) (bag ws) h = h
+  agree_grows l m f (bag vs) (bag ws) h = sized (is_crowd vs) h (λ s. s) (λ s. agree_each_grows l m f vs ws s)
   agree_grows l m f _ _ h = absurd h
 
   pub agree_each_grows : (l m : ℕ → ℕ → Bool) → ((y z : ℕ) → l y z ≡ true → m y z ≡ true) → (vs ws : Values)
@@ -28,7 +29,7 @@ mutual
   agree_on A l m f (reference y) (reference z) p q h = f y z p q h
   agree_on A l m f (typed n v) (typed k w) p q h = (h.0, agree_on A l m f v w p q h.1)
   agree_on A l m f (sequence vs) (sequence ws) p q h = agree_each_on A l m f vs ws p q h
-  agree_on A l m f (bag vs) (bag ws) p q h = h
+  agree_on A l m f (bag vs) (bag ws) p q h = sized (is_crowd vs) h (λ s. s) (λ s. agree_each_on A l m f vs ws p q s)
   agree_on A l m f _ _ p q h = absurd h
 
   pub agree_each_on : (A : ℕ → Type 0) (l m : ℕ → ℕ → Bool) → ((y z : ℕ) → A y → A z → l y z ≡ true → m y z ≡ true)
@@ -54,7 +55,7 @@ mutual
   agree_refl l (reference y) h = h
   agree_refl l (typed n v) h = (refl, agree_refl l v h)
   agree_refl l (sequence vs) h = agree_each_refl l vs h
-  agree_refl l (bag vs) h = (vs, unchanged vs, same_each_refl vs)
+  agree_refl l (bag vs) h = made (is_crowd vs) (vs, unchanged vs, same_each_refl vs) (agree_each_refl l vs h)
 
   pub agree_each_refl : (l : ℕ → ℕ → Bool) (vs : Values) → EachReferenceOf (λ y. l y y ≡ true) vs → AgreeEach l vs vs
   agree_each_refl l none h = tt
@@ -65,7 +66,7 @@ mutual
   same_refl (reference y) = eq-eqb y y refl
   same_refl (typed n v) = (refl, same_refl v)
   same_refl (sequence vs) = same_each_refl vs
-  same_refl (bag vs) = (vs, unchanged vs, same_each_refl vs)
+  same_refl (bag vs) = made (is_crowd vs) (vs, unchanged vs, same_each_refl vs) (same_each_refl vs)
 
   pub same_each_refl : (vs : Values) → AgreeEach (◌==◌) vs vs
   same_each_refl none = tt
@@ -100,12 +101,12 @@ mutual
   agree_trans l m n f (typed s u) (typed t v) (typed o w) h k = (h.0 ∙ k.0, agree_trans l m n f u v w h.1 k.1)
   agree_trans l m n f (sequence us) (sequence vs) (sequence ws) h k = agree_each_trans l m n f us vs ws h k
   agree_trans l m n f (bag us) (bag vs) (bag ws) h k =
-      let moved = reordered_pairs (◌==◌) (reordering_sym h.1) k.0 k.2 in (
-        moved.0,
-        joined (reordering_sym moved.1) k.1,
-        agree_each_trans (◌==◌) (◌==◌) (◌==◌) eqb_trans us h.0 moved.0 h.2
-            moved.2,
-      )
+      both_sized (is_crowd us) h (moved _ _ (is_crowd vs) (is_crowd us) (sym (bags_alike l us vs h)) k) (λ s t.
+      let led = reordered_pairs (◌==◌) (reordering_sym s.1) t.0 t.2 in (
+        led.0,
+        joined (reordering_sym led.1) t.1,
+        agree_each_trans (◌==◌) (◌==◌) (◌==◌) eqb_trans us s.0 led.0 s.2 led.2,
+      )) (λ s t. agree_each_trans l m n f us vs ws s t)
   agree_trans l m n f (leaf a) (leaf b) _ h k = absurd k
   agree_trans l m n f (reference a) (reference b) _ h k = absurd k
   agree_trans l m n f (typed s a) (typed t b) _ h k = absurd k
@@ -131,9 +132,10 @@ mutual
   agree_back l m f (typed n v) (typed k w) h = (sym h.0, agree_back l m f v w h.1)
   agree_back l m f (sequence vs) (sequence ws) h = agree_each_back l m f vs ws h
   agree_back l m f (bag vs) (bag ws) h =
-      let back = agree_each_back (◌==◌) (◌==◌) eqb_sym vs h.0 h.2 in
-      let moved = reordered_pairs (◌==◌) h.1 vs back in
-      (moved.0, reordering_sym moved.1, moved.2)
+      moved _ _ (is_crowd vs) (is_crowd ws) (bags_alike l vs ws h) (sized (is_crowd vs) h (λ s.
+      let back = agree_each_back (◌==◌) (◌==◌) eqb_sym vs s.0 s.2 in
+      let led = reordered_pairs (◌==◌) s.1 vs back in
+      (led.0, reordering_sym led.1, led.2)) (λ s. agree_each_back l m f vs ws s))
   agree_back l m f _ _ h = absurd h
 
   pub agree_each_back : (l m : ℕ → ℕ → Bool) → ((y z : ℕ) → l y z ≡ true → m z y ≡ true) → (vs ws : Values)

@@ -7,7 +7,7 @@ use Rattle.std.proofs.lemmas.Option.{slice_get-get_or}
 use Rattle.parsing.specs.Nodes.{IsColumn, AreBefore}
 use Rattle.parsing.specs.declared.column.Run.{Run}
 use Rattle.step_values.specs.declared.cell.Cell.{Cell}
-use Rattle.step_values.specs.Building.{AreWithin, EndsBefore, IsOutside, StandApart}
+use Rattle.step_values.specs.steps.Building.{AreWithin, EndsBefore, IsOutside, StandApart}
 use Rattle.step_values.specs.Cells.{reach_of, IsIn, IsInside, value_nodes}
 use Rattle.step_values.proofs.Asking.{inside_reach}
 use Rattle.step_values.proofs.Reading.{within_at}
@@ -87,7 +87,7 @@ module _ (old : List Cell) (runs : List Run) (within : AreWithin (length old) ru
     outside = All-append (IsOutside runs) old cs h.outside out;
   }
 
-  -- .. which are a row
+  -- the further cells are a row
   module _ (column_is : IsColumn value_nodes old) (before : AreBefore value_nodes (length old) cs) (r : Run)
       (first : r.first ≡ length old) where
     low_old : (k : ℕ) (d : Cell) → k < length old → IsOutside (runs ++ r ∷ []) (get_or old k d)

@@ -4,18 +4,18 @@ use Rattle.std.specs.List.{All, Contains, sum_by}
 use Rattle.std.proofs.lemmas.List.{map-append, take_at, drop_at, drop-map, take-map, take-append-drop}
 use Rattle.std.proofs.lemmas.List.Elements.{All-nil, All-push, All-take, All-drop, Contains-append_cases, Contains-append_left, Contains-append_right, Contains-push}
 use Rattle.std.proofs.lemmas.List.Sums.{sum_by_push}
-use Rattle.parsing.specs.Cells.{Cells}
-use Rattle.parsing.specs.Closing.{Closes}
+use Rattle.parsing.specs.steps.Cells.{Cells}
+use Rattle.parsing.specs.steps.Closing.{Closes}
 use Rattle.parsing.specs.Nodes.{run, said_by, IsColumn, AreBefore, GoesOn}
 use Rattle.parsing.specs.declared.column.Run.{Run}
 use Rattle.parsing.proofs.Grown.{goes_on, place_same, said_same, all_later}
 use Rattle.step_literals.specs.declared.literal.Word.{Word}
 use Rattle.step_values.specs.declared.cell.Cell.{Cell}
 use Rattle.step_values.specs.declared.cell.Cell.TheVariants as cells
-use Rattle.step_values.specs.Building.{AreReached, AreWithin, built, Builds, Building, Holds, IsOutside, StandApart, rows_by}
+use Rattle.step_values.specs.steps.Building.{AreReached, AreWithin, built, Builds, Building, Holds, IsOutside, StandApart, rows_by}
 use Rattle.step_values.specs.Cells.{flat_value, inner_of, reach_of, IsIn, IsInside, value_at, value_by, value_nodes, values_of_run}
-use Rattle.step_values.specs.NodeCounts.{nodes_of, nodes_in}
-use Rattle.step_values.specs.Targets.{target_of, targets_of, LeadTo}
+use Rattle.step_values.specs.steps.NodeCounts.{nodes_of, nodes_in}
+use Rattle.step_values.specs.steps.Targets.{target_of, targets_of, LeadTo}
 use Rattle.step_values.specs.Leaves.{unset}
 use Rattle.step_values.specs.Values.{Value, leaf, typed}
 use Rattle.step_values.specs.Views.{all_of, word_of}
@@ -92,7 +92,7 @@ reached_still n runs more cs ds kept stay h k l = elim (h k l) [
   | inr there ↦ inr (there.0, stay there.0 there.1, there.2)
 ]
 
--- .. and what stands behind it too
+-- what is reached stays so if further indices are reached too
 reached_behind : (m n : ℕ) (runs : List Run) (cs : List Cell) → AreReached m runs cs → ((k : ℕ) → m ≤ k → k < n
     → ((r : Run) × Contains runs r × IsIn r k) ⊎ ((c : Cell) × Contains cs c × IsInside c k)) → AreReached n runs cs
 reached_behind m n runs cs h behind k l = go (low_or_high k)

@@ -1,8 +1,9 @@
 -- Agreement by shapes and references.
 use Rattle.std.proofs.Common.{◌≡◌, ℕ, Bool, true, List, [], ◌∷◌, ◌++◌, refl, length, arith, length-append}
 use Rattle.std.specs.List.{AllZip}
-use Rattle.step_values.specs.Values.{Value, leaf, reference, typed, sequence, bag, Values, none, more, Agree, AgreeEach}
+use Rattle.step_values.specs.Values.{Value, leaf, reference, typed, sequence, bag, Values, none, more, is_crowd, Agree, AgreeEach}
 use Rattle.step_values.specs.Shapes.{outside, outside_each, AgreementIsByShapes}
+use Rattle.step_values.proofs.Crowds.{bags_alike, counted, shaped, unshaped}
 
 abbrev any : ℕ → ℕ → Bool
 any y z = true
@@ -31,7 +32,8 @@ mutual
   same_count test (reference y) (reference z) h = refl
   same_count test (typed n v) (typed m w) h = same_count test v w h.1
   same_count test (sequence vs) (sequence ws) h = same_counts test vs ws h
-  same_count test (bag vs) (bag ws) h = refl
+  same_count test (bag vs) (bag ws) h = counted _ (is_crowd vs) (is_crowd ws) (outside_each vs) (outside_each ws)
+      (bags_alike test vs ws h) h (λ s. same_counts test vs ws s)
   same_count test _ _ h = absurd h
 
   pub same_counts : (test : ℕ → ℕ → Bool) (vs ws : Values) → AgreeEach test vs ws
@@ -51,7 +53,8 @@ mutual
   to_shape test (reference y) (reference z) h = (refl, (h, tt))
   to_shape test (typed n v) (typed m w) h = let rest = to_shape test v w h.1 in ((h.0, rest.0), rest.1)
   to_shape test (sequence vs) (sequence ws) h = to_shapes test vs ws h
-  to_shape test (bag vs) (bag ws) h = (h, tt)
+  to_shape test (bag vs) (bag ws) h = shaped (Passes test) _ (is_crowd vs) (is_crowd ws) (outside_each vs)
+      (outside_each ws) (bags_alike test vs ws h) h (λ s. to_shapes test vs ws s)
   to_shape test _ _ h = absurd h
 
   to_shapes : (test : ℕ → ℕ → Bool) (vs ws : Values) → AgreeEach test vs ws
@@ -70,7 +73,8 @@ mutual
   from_shape test (reference y) (reference z) h k = k.0
   from_shape test (typed n v) (typed m w) h k = (h.0, from_shape test v w h.1 k)
   from_shape test (sequence vs) (sequence ws) h k = from_shapes test vs ws h k
-  from_shape test (bag vs) (bag ws) h k = h
+  from_shape test (bag vs) (bag ws) h k = unshaped (Passes test) _ (is_crowd vs) (is_crowd ws) (outside_each vs)
+      (outside_each ws) (bags_alike any vs ws h) h k (λ s z. from_shapes test vs ws s z)
   from_shape test _ _ h k = absurd h
 
   from_shapes : (test : ℕ → ℕ → Bool) (vs ws : Values) → AgreeEach any vs ws

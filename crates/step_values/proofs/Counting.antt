@@ -4,8 +4,8 @@ use Rattle.std.specs.List.{sum_by}
 use Rattle.std.proofs.lemmas.List.{take-append-drop}
 use Rattle.std.proofs.lemmas.List.Sums.{sum_by-append, sum_by-cons}
 use Rattle.step_values.specs.declared.cell.Cell.{Cell}
-use Rattle.step_values.specs.NodeCounts.{nodes_of, nodes_in}
-use Rattle.step_values.specs.Targets.{target_of, targets_of, LeadTo}
+use Rattle.step_values.specs.steps.NodeCounts.{nodes_of, nodes_in}
+use Rattle.step_values.specs.steps.Targets.{target_of, targets_of, LeadTo}
 use Rattle.step_values.specs.Values.{Value}
 use Rattle.step_values.specs.Views.{all_of}
 

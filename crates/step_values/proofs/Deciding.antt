@@ -9,8 +9,9 @@ use Rattle.std.specs.Cmp.Lexicographic.{pointwise_decides}
 use Rattle.step_literals.specs.declared.literal.items.Item.{Item}
 use Rattle.step_literals.specs.declared.literal.items.Item.TheVariants.{Code, Page, Raw}
 use Rattle.step_values.specs.Leaves.{Leaf, unset, derived, number, text, bits, element}
-use Rattle.step_values.specs.Values.{Value, leaf, reference, typed, sequence, bag, Values, none, more, IsReordering, unchanged, kept, swapped, joined, Agree, AgreeEach}
-use Rattle.step_values.specs.ComputedAgreement.{item_test, each_test, leaf_test, count_in, size, same_test, same_each_test, counts_test, agree_by, agree_each_by}
+use Rattle.step_values.specs.Values.{Value, leaf, reference, typed, sequence, bag, Values, none, more, is_crowd, IsReordering, unchanged, kept, swapped, joined, Agree, AgreeEach}
+use Rattle.step_values.specs.AgreementTests.{item_test, each_test, leaf_test, count_in, value_count, same_test, same_each_test, counts_test, agree_by, agree_each_by}
+use Rattle.step_values.proofs.Crowds.{passes, passed, size_reordered, size_agree, by_names, from_names}
 use Rattle.step_values.proofs.Agreement.{same_refl, agree_back, agree_trans, eqb_sym, eqb_trans}
 
 module _ {A : Type 0} (test : A → A → Bool) (decides : (a b : A) → Decides (test a b) (a ≡ b)) where
@@ -113,17 +114,6 @@ count_reordered p (kept {vs = vs} {ws = ws} v r) = count_more (p v) (count_in p 
 count_reordered p (swapped v w vs) = count_swap (p v) (p w) (count_in p vs)
 count_reordered p (joined r s) = count_reordered p r ∙ count_reordered p s
 
-size_reordered : {us ws : Values} → IsReordering us ws → size us ≡ size ws
-size_reordered (unchanged vs) = refl
-size_reordered (kept v r) = ap suc (size_reordered r)
-size_reordered (swapped v w vs) = refl
-size_reordered (joined r s) = size_reordered r ∙ size_reordered s
-
-size_agree : (vs us : Values) → AgreeEach (◌==◌) vs us → size vs ≡ size us
-size_agree none none h = refl
-size_agree (more v vs) (more u us) h = ap suc (size_agree vs us h.1)
-size_agree _ _ h = absurd h
-
 count_agree : (u : Value) → Decided u → (vs us : Values) → AgreeEach (◌==◌) vs us → count_in (same_test u) vs ≡ count_in
     (same_test u) us
 count_agree u d none none h = refl
@@ -170,7 +160,7 @@ paired v w vs ws rest us taken_out pair reordered agree = (
   (pair, agree),
 )
 
-matched : (vs ws : Values) → AllDecided vs → size vs ≡ size ws
+matched : (vs ws : Values) → AllDecided vs → value_count vs ≡ value_count ws
     → ((u : Value) → Member u vs → count_in (same_test u) vs ≡ count_in (same_test u) ws) → (us : Values)
     × IsReordering us ws × AgreeEach (◌==◌) vs us
 matched none none d s f = (none, unchanged none, tt)
@@ -183,7 +173,7 @@ matched (more v vs) ws d s f =
     let some : 0 < count_in (same_test v) ws = omega (arith, front, all) in
     let found = taken (same_test v) ws some in
     let pair : Same v found.0 = d.0.sound found.0 found.2 in
-    let left : size vs ≡ size found.1 = omega (arith, size_reordered found.3, s) in
+    let left : value_count vs ≡ value_count found.1 = omega (arith, size_reordered found.3, s) in
     let rest = matched vs found.1 d.1 left (λ u m. count_less (same_test u v) (count_in (same_test u) vs)
     (count_in (same_test u) found.1)
     (f u (inr m) ∙ sym (count_reordered (same_test u) found.3)
@@ -200,8 +190,9 @@ mutual
       ((bytes_eq-Decides n m).0 parts.0, test_sound v w parts.1)
   test_sound (sequence vs) (sequence ws) h = each_sound vs ws h
   test_sound (bag vs) (bag ws) h =
-      let parts = and_parts (size vs == size ws) (counts_test vs vs ws) h in
-      matched vs ws (all_decided vs) (eqb-true _ _ parts.0) (counts_each vs vs ws parts.1)
+      let parts = and_parts (value_count vs == value_count ws) (counts_test vs vs ws) h in
+      let found = matched vs ws (all_decided vs) (eqb-true _ _ parts.0) (counts_each vs vs ws parts.1) in
+      from_names vs found.0 ws found.1 found.2
   test_sound _ _ h = absurd (cc)
 
   pub test_complete : (v w : Value) → Same v w → same_test v w ≡ true
@@ -211,9 +202,10 @@ mutual
       (test_complete v w h.1)
   test_complete (sequence vs) (sequence ws) h = each_complete vs ws h
   test_complete (bag vs) (bag ws) h =
-      and_from (size vs == size ws) (counts_test vs vs ws) (eq-eqb _ _ (size_agree vs h.0 h.2 ∙ size_reordered h.1))
-      (counts_from vs vs ws (λ u m. count_agree u (member_decided u vs (all_decided vs) m) vs h.0 h.2
-      ∙ count_reordered (same_test u) h.1))
+      let s = by_names vs ws h in
+      and_from (value_count vs == value_count ws) (counts_test vs vs ws) (eq-eqb _ _ (size_agree (◌==◌) vs s.0 s.2
+      ∙ size_reordered s.1)) (counts_from vs vs ws (λ u m. count_agree u (member_decided u vs (all_decided vs) m) vs s.0
+      s.2 ∙ count_reordered (same_test u) s.1))
   test_complete _ _ h = absurd h
 
   pub each_sound : (vs ws : Values) → same_each_test vs ws ≡ true → AgreeEach (◌==◌) vs ws
@@ -244,7 +236,9 @@ module _ (test : ℕ → ℕ → Bool) where
         let parts = and_parts (bytes_eq n m) (agree_by test v w) h in
         ((bytes_eq-Decides n m).0 parts.0, by_sound v w parts.1)
     by_sound (sequence vs) (sequence ws) h = each_by_sound vs ws h
-    by_sound (bag vs) (bag ws) h = test_sound (bag vs) (bag ws) h
+    by_sound (bag vs) (bag ws) h =
+        passes (is_crowd vs) (same_test (bag vs) (bag ws)) (agree_each_by test vs ws) h (λ e. by_names vs ws
+        (test_sound (bag vs) (bag ws) e)) (λ e. each_by_sound vs ws e)
     by_sound _ _ h = absurd (cc)
 
     pub each_by_sound : (vs ws : Values) → agree_each_by test vs ws ≡ true → AgreeEach test vs ws
@@ -261,7 +255,9 @@ module _ (test : ℕ → ℕ → Bool) where
     by_complete (typed n v) (typed m w) h = and_from (bytes_eq n m) (agree_by test v w) ((bytes_eq-Decides n m).1 h.0)
         (by_complete v w h.1)
     by_complete (sequence vs) (sequence ws) h = each_by_complete vs ws h
-    by_complete (bag vs) (bag ws) h = test_complete (bag vs) (bag ws) h
+    by_complete (bag vs) (bag ws) h =
+        passed (is_crowd vs) (same_test (bag vs) (bag ws)) (agree_each_by test vs ws) h (λ s. test_complete (bag vs)
+        (bag ws) (from_names vs s.0 ws s.1 s.2)) (λ s. each_by_complete vs ws s)
     by_complete _ _ h = absurd h
 
     pub each_by_complete : (vs ws : Values) → AgreeEach test vs ws → agree_each_by test vs ws ≡ true

@@ -1,14 +1,18 @@
 -- Values with the numbers of labels in place of references agree exactly where the values agree by these labels.
-use Rattle.std.proofs.Common.{◌≡◌, ◌+◌, ℕ, suc, Bool, true, false, Result, Ok, Err, refl, sym, ◌∙◌, ap, eqb-true, eq-eqb, arith}
+use Rattle.std.proofs.Common.{◌≡◌, ◌≢◌, ◌+◌, ℕ, suc, Bool, true, false, Result, Ok, Err, refl, sym, ◌∙◌, ap, eqb-true, eq-eqb, arith}
 use Rattle.std.specs.Prelude.{◌==◌, ◌&&◌, ◌↔◌, IfOk}
 use Rattle.std.specs.Str.{bytes_eq}
 use Rattle.step_values.specs.declared.labels.Label.{Label}
 use Rattle.step_values.specs.declared.labels.Label.TheVariants.{Name, Class}
-use Rattle.step_values.specs.Values.{Value, leaf, reference, typed, sequence, bag, Values, none, more, AgreeEach}
+use Rattle.step_values.specs.Values.{Value, leaf, reference, typed, sequence, bag, Values, none, more, is_crowd, AgreeEach}
 use Rattle.step_values.specs.References.{renamed, renamed_each, EachReference, EachReferenceOf}
 use Rattle.step_values.specs.Labels.{Labelling, renaming, label_test, one_label, renamed_in_bags, each_renamed_in_bags, AgreeBy, AgreeEachBy}
-use Rattle.step_values.specs.ComputedAgreement.{same_test, same_each_test}
-use Rattle.step_values.specs.ComputedLabels.{code, within, labelled, each_labelled, same_by, same_each_by}
+use Rattle.step_values.specs.AgreementTests.{value_count, same_test, same_each_test}
+use Rattle.step_values.specs.LabelledValues.{code, placed, within, labelled, each_labelled, same_by, same_each_by}
+use Rattle.std.proofs.lemmas.Bool.{and_parts, and_from}
+use Rattle.step_values.proofs.Crowds.{placed_within, two_sizes, size_renamed}
+use Rattle.step_values.proofs.References.{each_in_bag}
+use Rattle.step_values.proofs.Walks.{bags_of_two_sizes}
 use Rattle.step_values.proofs.Deciding.{same_bool, test_sound, test_complete, each_sound, each_complete, by_sound, by_complete, each_by_sound, each_by_complete}
 use Rattle.step_values.proofs.Renaming.{agree_renamed, reflected, each_renamed_itself}
 
@@ -60,7 +64,8 @@ mutual
   within_twice f (reference y) = refl
   within_twice f (typed n v) = ap (typed n) (within_twice f v)
   within_twice f (sequence vs) = ap sequence (each_within_twice f vs)
-  within_twice f (bag vs) = ap bag (each_within_twice f vs)
+  within_twice f (bag vs) = ap bag (ap (λ g. each_labelled g vs) (placed_within (is_crowd vs) f)
+      ∙ each_within_twice f vs)
 
   each_within_twice : (f : Labelling) (vs : Values) → each_labelled (within f) vs ≡ renamed_each twice
       (renamed_each f.inside vs)
@@ -85,16 +90,42 @@ twice_same vs ws =
     same_bool _ _
     (λ e. test_complete (bag vs) (bag ws) (reflected twice (λ _. Unit {0}) (λ _. Unit {0}) (λ y z _ _ same. twice_eq y z
     same) (◌==◌) (◌==◌) (λ _. Unit {0}) (λ y z _ _ same. sym (evens y z) ∙ same) (bag vs) (bag ws) (each_any_of vs)
-    (each_any_of vs) (each_any_of ws) (test_sound (renamed twice (bag vs)) (renamed twice (bag ws)) e)))
+    (each_in_bag (λ _. Unit {0}) (bag vs) (each_any_of vs)) (each_any_of ws) (test_sound (renamed twice (bag vs)) (renamed twice (bag ws)) e)))
     (λ e. test_complete (renamed twice (bag vs)) (renamed twice (bag ws)) (agree_renamed twice (◌==◌) (λ y z same.
     ap twice (eqb-true y z same)) (bag vs) (bag ws) (test_sound (bag vs) (bag ws) e)))
 
-pub bags_labelled : (f g : Labelling) (vs ws : Values) → same_test (bag (each_labelled (within f) vs))
-    (bag (each_labelled (within g) ws)) ≡ same_by f g (bag vs) (bag ws)
-bags_labelled f g vs ws =
+crowds_labelled : (f g : Labelling) (vs ws : Values) → same_test (bag (each_labelled (within f) vs))
+    (bag (each_labelled (within g) ws)) ≡ same_test (bag (renamed_each f.inside vs)) (bag (renamed_each g.inside ws))
+crowds_labelled f g vs ws =
     ap (λ us. same_test (bag us) (bag (each_labelled (within g) ws))) (each_within_twice f vs)
     ∙ ap (λ us. same_test (bag (renamed_each twice (renamed_each f.inside vs))) (bag us)) (each_within_twice g ws)
     ∙ twice_same (renamed_each f.inside vs) (renamed_each g.inside ws)
+
+-- bags of no more than one value are compared place by place
+small_test : (vs ws : Values) → is_crowd vs ≡ false → same_test (bag vs) (bag ws) ≡ same_each_test vs ws
+small_test none ws e = same_bool _ _ (λ t. each_complete none ws (test_sound (bag none) (bag ws) t))
+    (λ t. test_complete (bag none) (bag ws) (each_sound none ws t))
+small_test (more v none) ws e = same_bool _ _ (λ t. each_complete (more v none) ws (test_sound (bag (more v none))
+    (bag ws) t)) (λ t. test_complete (bag (more v none)) (bag ws) (each_sound (more v none) ws t))
+small_test (more v (more u vs)) ws e = absurd (cc)
+
+size_labelled : (f : Labelling) (vs : Values) → value_count (each_labelled f vs) ≡ value_count vs
+size_labelled f none = refl
+size_labelled f (more v vs) = ap suc (size_labelled f vs)
+
+-- bags of two sizes
+labelled_apart : (f g : Labelling) (vs ws : Values) → value_count vs ≢ value_count ws → same_test (labelled f (bag vs))
+    (labelled g (bag ws)) ≡ same_by f g (bag vs) (bag ws)
+labelled_apart f g vs ws n =
+    two_sizes (each_labelled (placed (is_crowd vs) f) vs) (each_labelled (placed (is_crowd ws) g) ws)
+    (λ e. n (sym (size_labelled (placed (is_crowd vs) f) vs) ∙ e ∙ size_labelled (placed (is_crowd ws) g) ws))
+    ∙ sym (bags_of_two_sizes f g vs ws n)
+
+renamed_apart : (h k : ℕ → ℕ) (vs ws : Values) → value_count vs ≢ value_count ws → same_by (renaming h) (renaming k) (bag vs) (bag ws)
+    ≡ same_test (bag (renamed_each h vs)) (bag (renamed_each k ws))
+renamed_apart h k vs ws n =
+    bags_of_two_sizes (renaming h) (renaming k) vs ws n ∙ sym (two_sizes (renamed_each h vs) (renamed_each k ws)
+    (λ e. n (sym (size_renamed h vs) ∙ e ∙ size_renamed k ws)))
 
 -- outside
 
@@ -104,7 +135,18 @@ mutual
   same_labelled f g (reference y) (reference z) = one_code (f.outside y) (g.outside z)
   same_labelled f g (typed n v) (typed m w) = ap (λ b. bytes_eq n m && b) (same_labelled f g v w)
   same_labelled f g (sequence vs) (sequence ws) = same_each_labelled f g vs ws
-  same_labelled f g (bag vs) (bag ws) = bags_labelled f g vs ws
+  same_labelled f g (bag none) (bag none) = refl
+  same_labelled f g (bag none) (bag (more w ws)) = labelled_apart f g none (more w ws) (λ e. omega (arith, e))
+  same_labelled f g (bag (more v vs)) (bag none) = labelled_apart f g (more v vs) none (λ e. omega (arith, e))
+  same_labelled f g (bag (more v none)) (bag (more w none)) =
+      small_test (more (labelled f v) none) (more (labelled g w) none) refl ∙ ap (λ b. b && true) (same_labelled f g v
+      w)
+  same_labelled f g (bag (more v none)) (bag (more w (more x ws))) =
+      labelled_apart f g (more v none) (more w (more x ws)) (λ e. omega (arith, e))
+  same_labelled f g (bag (more v (more u vs))) (bag (more w none)) =
+      labelled_apart f g (more v (more u vs)) (more w none) (λ e. omega (arith, e))
+  same_labelled f g (bag (more v (more u vs))) (bag (more w (more x ws))) =
+      crowds_labelled f g (more v (more u vs)) (more w (more x ws))
   same_labelled f g _ _ = refl
 
   pub same_each_labelled : (f g : Labelling) (vs ws : Values) → same_each_test (each_labelled f vs) (each_labelled g ws)
@@ -129,7 +171,7 @@ same_each_decides f g vs ws = (
   each_by_complete (one_label f g) (each_renamed_in_bags f.inside vs) (each_renamed_in_bags g.inside ws),
 )
 
--- .. an answer that is one of them does
+-- a result that equals such a test decides agreement
 pub decided : {P : Type 0} (b test : Bool) → (test ≡ true) ↔ P → b ≡ test → (b ≡ true) ↔ P
 decided b test d e = (λ t. d.0 (sym e ∙ t), λ p. e ∙ d.1 p)
 
@@ -148,7 +190,17 @@ mutual
   same_renamed h k (reference y) (reference z) = refl
   same_renamed h k (typed n v) (typed m w) = ap (λ b. bytes_eq n m && b) (same_renamed h k v w)
   same_renamed h k (sequence vs) (sequence ws) = same_each_renamed h k vs ws
-  same_renamed h k (bag vs) (bag ws) = refl
+  same_renamed h k (bag none) (bag none) = refl
+  same_renamed h k (bag none) (bag (more w ws)) = renamed_apart h k none (more w ws) (λ e. omega (arith, e))
+  same_renamed h k (bag (more v vs)) (bag none) = renamed_apart h k (more v vs) none (λ e. omega (arith, e))
+  same_renamed h k (bag (more v none)) (bag (more w none)) =
+      ap (λ b. b && true) (same_renamed h k v w) ∙ sym (small_test (more (renamed h v) none) (more (renamed k w) none)
+      refl)
+  same_renamed h k (bag (more v none)) (bag (more w (more x ws))) =
+      renamed_apart h k (more v none) (more w (more x ws)) (λ e. omega (arith, e))
+  same_renamed h k (bag (more v (more u vs))) (bag (more w none)) =
+      renamed_apart h k (more v (more u vs)) (more w none) (λ e. omega (arith, e))
+  same_renamed h k (bag (more v (more u vs))) (bag (more w (more x ws))) = refl
   same_renamed h k _ _ = refl
 
   pub same_each_renamed : (h k : ℕ → ℕ) (vs ws : Values) → same_each_by (renaming h) (renaming k) vs ws
@@ -164,7 +216,7 @@ one_side : (h : ℕ → ℕ) (vs ws : Values) → same_each_by (renaming h) (ren
 one_side h vs ws = same_each_renamed h (λ y. y) vs ws
     ∙ ap (same_each_test (renamed_each h vs)) (each_renamed_itself (λ y. y) (λ _. refl) ws)
 
--- .. on one side
+-- agreement with names for the references of one side only
 pub agree_each_led_once : (h : ℕ → ℕ) (vs ws : Values) → AgreeEachBy (renaming h) (renaming (λ y. y)) vs ws
     → AgreeEach (◌==◌) (renamed_each h vs) ws
 agree_each_led_once h vs ws a =

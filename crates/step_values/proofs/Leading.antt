@@ -1,7 +1,7 @@
 -- A reference among cells leads to the row that has its name.
 use Rattle.std.proofs.Common.{◌≡◌, ◌<◌, ℕ, zero, suc, List, [], ◌∷◌, Some, slice_get, subst}
 use Rattle.step_values.specs.declared.cell.Cell.{Cell}
-use Rattle.step_values.specs.Targets.{target_of, targets_of, LeadTo}
+use Rattle.step_values.specs.steps.Targets.{target_of, targets_of, LeadTo}
 use Rattle.step_values.proofs.Counting.{split}
 
 module _ (names : List ℕ) where

@@ -1,4 +1,5 @@
 pub mod References
+pub mod Crowds
 pub mod Agreement
 pub mod ByShapes
 mod Changes

@@ -10,7 +10,7 @@ use Rattle.std.proofs.lemmas.Bool.{and_parts, and_from}
 use Rattle.std.proofs.lemmas.List.Sorted.{length_permutation}
 use Rattle.step_literals.specs.Items.{text_items}
 use Rattle.step_literals.specs.ItemKeys.{text_key}
-use Rattle.step_literals.specs.ItemKeyLemmas.{texts_are_their_items}
+use Rattle.step_literals.specs.steps.ItemKeyLemmas.{texts_are_their_items}
 use Rattle.step_literals.specs.declared.literal.Text.{Text}
 use Rattle.step_values.specs.declared.normal.Normal.{Normal, out-Normal}
 use Rattle.step_values.specs.declared.normal.Normal.TheVariants as variant
@@ -19,11 +19,12 @@ use Rattle.step_values.specs.contracts.normal.NormalOrd.TheImpl.Laws as orders
 use Rattle.step_values.specs.declared.labels.Label.{Label}
 use Rattle.step_values.specs.declared.labels.Label.TheVariants.{Name, Class}
 use Rattle.step_values.specs.contracts.labels.LabelPartialEq.TheImpl.{ghosts as labels}
-use Rattle.step_values.specs.ComputedLabels.{code}
+use Rattle.step_values.specs.LabelledValues.{code}
 use Rattle.step_values.specs.Leaves.{text}
 use Rattle.step_values.specs.Values.{Value, leaf, reference, typed, sequence, bag, Values, none, more, IsReordering, unchanged, kept, swapped, joined, AgreeEach}
-use Rattle.step_values.specs.ComputedAgreement.{leaf_test, count_in, size, same_test, same_each_test, counts_test}
-use Rattle.step_values.specs.ComputedForms.{Form, plain, to, called, listed, bagged, form, normal_cmp, normal_eq, IsNormal, AreNormal, AreSorted}
+use Rattle.step_values.specs.AgreementTests.{leaf_test, count_in, value_count, same_test, same_each_test, counts_test}
+use Rattle.step_values.specs.NormalForms.{Form, plain, to, called, listed, bagged, form, normal_cmp, normal_eq, IsNormal, AreNormal, AreSorted}
+use Rattle.step_values.proofs.Crowds.{by_names}
 use Rattle.step_values.proofs.Deciding.{leaf_decides, same_bool, Member, counts_from, count_swap, test_sound, test_complete}
 use Rattle.step_values.proofs.Labelled.{one_code}
 use Rattle.step_values.proofs.Sorting.{often, ascend, places_same, same_often, often_moved}
@@ -138,7 +139,7 @@ member_faithful u (more v vs) d (inr m) = member_faithful u vs d.1 m
 
 -- Bags: sorted lists
 
-sizes : (vs : Values) (ms : List Normal) → AreNormal vs ms → size vs ≡ length ms
+sizes : (vs : Values) (ms : List Normal) → AreNormal vs ms → value_count vs ≡ length ms
 sizes none [] p = refl
 sizes none (m ∷ ms) p = absurd p
 sizes (more v vs) [] p = absurd p
@@ -205,17 +206,17 @@ module _ (vs ws : Values) (faithful : AllFaithful vs) (ms ns : List Normal) (p :
         λ z. often_moved normal_eq normal_cmp order ties z p.0 ms p.2 ∙ same_often normal_eq normal_cmp order ties ms ns
         h
         z ∙ sym (often_moved normal_eq normal_cmp order ties z q.0 ns q.2) in
-        let one_size : size vs ≡ size ws =
+        let one_size : value_count vs ≡ value_count ws =
         sizes vs p.0 p.1 ∙ sym (length_permutation p.0 ms p.2) ∙ lengths ms ns h ∙ length_permutation q.0 ns q.2
         ∙ sym (sizes ws q.0 q.1) in
-        and_from (size vs == size ws) (counts_test vs vs ws) (eq-eqb _ _ one_size) (counts_from vs vs ws (λ u m.
+        and_from (value_count vs == value_count ws) (counts_test vs vs ws) (eq-eqb _ _ one_size) (counts_from vs vs ws (λ u m.
         let z = member_normal u vs p.0 p.1 m in
         let d = member_faithful u vs faithful m in
         sym (counted u d z.0 z.1 vs p.0 p.1) ∙ alike z.0 ∙ counted u d z.0 z.1 ws q.0 q.1))
 
     bags_complete : same_test (bag vs) (bag ws) ≡ true → pointwise normal_eq ms ns ≡ true
     bags_complete h =
-        let agree = test_sound (bag vs) (bag ws) h in
+        let agree = by_names vs ws (test_sound (bag vs) (bag ws) h) in
         let other = reordered agree.1 q.0 q.1 in
         let paired = places vs agree.0 faithful agree.2 p.0 other.0 p.1 other.1 in
         places_same normal_eq normal_cmp order ties ms ns (ascend normal_eq normal_cmp order ties ms p.3)

@@ -1,7 +1,8 @@
 -- What holds of each reference in values.
 use Rattle.std.proofs.Common.{ℕ}
-use Rattle.step_values.specs.Values.{Value, leaf, reference, typed, sequence, bag, Values, none, more, IsReordering, unchanged, kept, swapped, joined}
+use Rattle.step_values.specs.Values.{Value, leaf, reference, typed, sequence, bag, Values, none, more, is_crowd, IsReordering, unchanged, kept, swapped, joined}
 use Rattle.step_values.specs.References.{renamed, renamed_each, EachReference, EachReferenceOf, EachBagReference, EachBagReferenceOf}
+use Rattle.step_values.proofs.Crowds.{made, sized}
 
 pub each_reordered : (P : ℕ → Type 0) {us vs : Values} → IsReordering us vs → EachReferenceOf P vs
     → EachReferenceOf P us
@@ -16,7 +17,7 @@ mutual
   each_in_bag P (reference y) h = tt
   each_in_bag P (typed n v) h = each_in_bag P v h
   each_in_bag P (sequence vs) h = each_in_bag_of P vs h
-  each_in_bag P (bag vs) h = h
+  each_in_bag P (bag vs) h = made (is_crowd vs) h (each_in_bag_of P vs h)
 
   pub each_in_bag_of : (P : ℕ → Type 0) (vs : Values) → EachReferenceOf P vs → EachBagReferenceOf P vs
   each_in_bag_of P none h = tt
@@ -44,7 +45,7 @@ mutual
   bags_both P Q (reference y) h k = tt
   bags_both P Q (typed n v) h k = bags_both P Q v h k
   bags_both P Q (sequence vs) h k = bags_both_of P Q vs h k
-  bags_both P Q (bag vs) h k = each_both_of P Q vs h k
+  bags_both P Q (bag vs) h k = sized (is_crowd vs) k (λ q. each_both_of P Q vs h q) (λ q. bags_both_of P Q vs h q)
 
   pub bags_both_of : (P Q : ℕ → Type 0) (vs : Values) → EachReferenceOf P vs → EachBagReferenceOf Q vs
       → EachBagReferenceOf (λ y. P y × Q y) vs

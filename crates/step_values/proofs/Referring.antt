@@ -4,10 +4,10 @@ use Rattle.parsing.specs.Nodes.{run, said_or, said_within}
 use Rattle.parsing.specs.declared.column.Run.{Run}
 use Rattle.step_values.specs.declared.cell.Cell.{Cell}
 use Rattle.step_values.specs.declared.cell.Cell.TheVariants as cells
-use Rattle.step_values.specs.Building.{rows_by}
+use Rattle.step_values.specs.steps.Building.{rows_by}
 use Rattle.step_values.specs.Cells.{inner_of, value_nodes, value_at, value_by}
 use Rattle.step_values.specs.References.{EachReference, EachReferenceOf}
-use Rattle.step_values.specs.Targets.{target_of, targets_of, LeadTo, ReferTo}
+use Rattle.step_values.specs.steps.Targets.{target_of, targets_of, LeadTo, ReferTo}
 use Rattle.step_values.specs.Values.{Value}
 use Rattle.step_values.specs.Views.{all_of}
 use Rattle.step_values.proofs.Leading.{cell_leads}

@@ -1,8 +1,9 @@
 -- References replaced by a map of names: agreement survives it, and is reflected by it.
-use Rattle.std.proofs.Common.{◌≡◌, ℕ, Bool, true, refl, ap, subst, eqb-true, eq-eqb}
+use Rattle.std.proofs.Common.{◌≡◌, ℕ, Bool, true, refl, sym, ap, subst, eqb-true, eq-eqb}
 use Rattle.std.specs.Prelude.{◌==◌}
-use Rattle.step_values.specs.Values.{Value, leaf, reference, typed, sequence, bag, Values, none, more, IsReordering, unchanged, kept, swapped, joined, Agree, AgreeEach}
+use Rattle.step_values.specs.Values.{Value, leaf, reference, typed, sequence, bag, Values, none, more, is_crowd, IsReordering, unchanged, kept, swapped, joined, Agree, AgreeEach}
 use Rattle.step_values.specs.References.{renamed, renamed_each, EachReference, EachReferenceOf, EachBagReference, EachBagReferenceOf}
+use Rattle.step_values.proofs.Crowds.{sized, both_sized, moved, crowd_renamed}
 use Rattle.step_values.proofs.References.{each_in_bag_of, each_reordered}
 
 pub renamed_reordering : (h : ℕ → ℕ) {us vs : Values} → IsReordering us vs → IsReordering (renamed_each h us)
@@ -33,12 +34,12 @@ mutual
   agree_renamed h l f (reference y) (reference z) e = eq-eqb (h y) (h z) (f y z e)
   agree_renamed h l f (typed n v) (typed k w) e = (e.0, agree_renamed h l f v w e.1)
   agree_renamed h l f (sequence vs) (sequence ws) e = agree_each_renamed h l f vs ws e
-  agree_renamed h l f (bag vs) (bag ws) e = (
-    renamed_each h e.0,
-    renamed_reordering h e.1,
-    agree_each_renamed h (◌==◌) (λ y z n. ap h (eqb-true y z n)) vs e.0
-        e.2,
-  )
+  agree_renamed h l f (bag vs) (bag ws) e =
+      moved _ _ (is_crowd vs) (is_crowd (renamed_each h vs)) (sym (crowd_renamed h vs)) (sized (is_crowd vs) e (λ s. (
+        renamed_each h s.0,
+        renamed_reordering h s.1,
+        agree_each_renamed h (◌==◌) (λ y z n. ap h (eqb-true y z n)) vs s.0 s.2,
+      )) (λ s. agree_each_renamed h l f vs ws s))
   agree_renamed h l f _ _ e = absurd e
 
   pub agree_each_renamed : (h : ℕ → ℕ) (l : ℕ → ℕ → Bool) → ((y z : ℕ) → l y z ≡ true → h y ≡ h z) → (vs ws : Values)
@@ -57,12 +58,12 @@ mutual
   agree_led h l m A f (reference y) (reference z) p q e = f y z p q e
   agree_led h l m A f (typed n v) (typed k w) p q e = (e.0, agree_led h l m A f v w p q e.1)
   agree_led h l m A f (sequence vs) (sequence ws) p q e = agree_each_led h l m A f vs ws p q e
-  agree_led h l m A f (bag vs) (bag ws) p q e = (
-    renamed_each h e.0,
-    renamed_reordering h e.1,
-    agree_each_renamed h (◌==◌) (λ y z n. ap h (eqb-true y z n)) vs e.0
-        e.2,
-  )
+  agree_led h l m A f (bag vs) (bag ws) p q e =
+      moved _ _ (is_crowd vs) (is_crowd (renamed_each h vs)) (sym (crowd_renamed h vs)) (sized (is_crowd vs) e (λ s. (
+        renamed_each h s.0,
+        renamed_reordering h s.1,
+        agree_each_renamed h (◌==◌) (λ y z n. ap h (eqb-true y z n)) vs s.0 s.2,
+      )) (λ s. agree_each_led h l m A f vs ws p q s))
   agree_led h l m A f _ _ p q e = absurd e
 
   pub agree_each_led : (h : ℕ → ℕ) (l m : ℕ → ℕ → Bool) (A : ℕ → Type 0)
@@ -100,15 +101,16 @@ mutual
   reflected h B P g m l A f (typed n v) (typed k w) p q r e = (e.0, reflected h B P g m l A f v w p q r e.1)
   reflected h B P g m l A f (sequence vs) (sequence ws) p q r e = reflected_each h B P g m l A f vs ws p q r e
   reflected h B P g m l A f (bag vs) (bag ws) p q r e =
-      let found = reordering_of_renamed h e.1 ws refl in
+      both_sized (is_crowd vs) (moved _ _ (is_crowd (renamed_each h vs)) (is_crowd vs) (crowd_renamed h vs) e) q (λ s b.
+      let found = reordering_of_renamed h s.1 ws refl in
       let pairs : AgreeEach (◌==◌) (renamed_each h vs) (renamed_each h found.0) =
-      subst (λ us. AgreeEach (◌==◌) (renamed_each h vs) us) found.2 e.2 in (
+      subst (λ us. AgreeEach (◌==◌) (renamed_each h vs) us) found.2 s.2 in (
         found.0,
         found.1,
         reflected_each h B P g (◌==◌) (◌==◌) B
-            (λ y z a c d. eq-eqb y z (g y z a c (eqb-true (h y) (h z) d))) vs found.0 q (each_in_bag_of B vs q)
+            (λ y z a c d. eq-eqb y z (g y z a c (eqb-true (h y) (h z) d))) vs found.0 b (each_in_bag_of B vs b)
             (each_reordered P found.1 r) pairs,
-      )
+      )) (λ s b. reflected_each h B P g m l A f vs ws p b r s)
   reflected h B P g m l A f _ _ p q r e = absurd e
 
   pub reflected_each : (h : ℕ → ℕ) (B P : ℕ → Type 0) → ((y z : ℕ) → B y → P z → h y ≡ h z → y ≡ z)

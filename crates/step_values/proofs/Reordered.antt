@@ -14,14 +14,14 @@ use Rattle.parsing.specs.Nodes.{run, said_or, said_within, IsColumn}
 use Rattle.parsing.specs.declared.column.Run.{Run}
 use Rattle.step_values.specs.declared.cell.Cell.{Cell}
 use Rattle.step_values.specs.declared.cell.Cell.TheVariants as cells
-use Rattle.step_values.specs.Building.{AreReached, AreWithin, EndsBefore, Holds, IsOutside, rows_by}
+use Rattle.step_values.specs.steps.Building.{AreReached, AreWithin, EndsBefore, Holds, IsOutside, rows_by}
 use Rattle.step_values.specs.Cells.{reach_of, IsIn, IsInside, value_at, value_by, value_nodes, values_of_run}
-use Rattle.step_values.specs.ComputedAgreement.{size}
+use Rattle.step_values.specs.AgreementTests.{value_count}
 use Rattle.step_values.specs.Leaves.{unset}
-use Rattle.step_values.specs.NodeCounts.{nodes_of, nodes_in}
-use Rattle.step_values.specs.Ordering.{at_positions, cells_at, cells_of, positions_of, row_at, written_over}
-use Rattle.step_values.specs.Slots.{nth}
-use Rattle.step_values.specs.Targets.{target_of, targets_of, LeadTo}
+use Rattle.step_values.specs.steps.NodeCounts.{nodes_of, nodes_in}
+use Rattle.step_values.specs.steps.Ordering.{at_positions, cells_at, cells_of, positions_of, row_at, written_over}
+use Rattle.step_values.specs.steps.Slots.{nth}
+use Rattle.step_values.specs.steps.Targets.{target_of, targets_of, LeadTo}
 use Rattle.step_values.specs.Values.{Value, leaf, Values, none, more}
 use Rattle.step_values.specs.Views.{all_of}
 use Rattle.step_values.proofs.Asking.{asks_places, run_alike}
@@ -75,8 +75,8 @@ module _ {A : Type 0} where
 
     put_there : (j : ℕ) → j < n → slice_get (put_mid a n xs ys) (a + j) ≡ slice_get ys j
     put_there j l =
-        let size = front_size in
-        got_behind (take a xs) (ys ++ post_of a n xs) j (a + j) (omega (arith, size))
+        let value_count = front_size in
+        got_behind (take a xs) (ys ++ post_of a n xs) j (a + j) (omega (arith, value_count))
         ∙ got_front ys (post_of a n xs) j (omega (arith, l, long))
 
     others_stay : (k : ℕ) → ((a ≤ k) × (k < a + n) → ⊥) → slice_get (put_mid a n xs ys) k ≡ slice_get xs k
@@ -86,15 +86,15 @@ module _ {A : Type 0} where
             → ((leb (a + n) k ≡ true) × (a + n ≤ k)) ⊎ ((leb (a + n) k ≡ false) × (k < a + n))
             → slice_get (put_mid a n xs ys) k ≡ slice_get xs k
         go (inr h) past =
-            let size = front_size in
+            let value_count = front_size in
             let l = h.1 in
-            got_front (take a xs) (ys ++ post_of a n xs) k (omega (arith, l, size)) ∙ got_taken a xs k l
+            got_front (take a xs) (ys ++ post_of a n xs) k (omega (arith, l, value_count)) ∙ got_taken a xs k l
         go (inl h) (inr past) = absurd (out (h.1, past.1))
         go (inl h) (inl past) =
-            let size = front_size in
+            let value_count = front_size in
             let l = past.1 in
             let m = k - (a + n) in
-            got_behind (take a xs) (ys ++ post_of a n xs) (n + m) k (omega (arith, size, l))
+            got_behind (take a xs) (ys ++ post_of a n xs) (n + m) k (omega (arith, value_count, l))
             ∙ got_behind ys (post_of a n xs) m (n + m) (omega (arith, long))
             ∙ got_dropped n (drop a xs) m (n + m) refl
             ∙ got_dropped a xs (n + m) k (omega (arith, l))
@@ -126,7 +126,7 @@ one_on v vs a (suc n) =
 
 pub at_all : (vs : Values) → at_positions vs (positions_of vs) ≡ vs
 at_all none = refl
-at_all (more v vs) = λ i. more v ((one_on v vs 0 (size vs) ∙ at_all vs) i)
+at_all (more v vs) = λ i. more v ((one_on v vs 0 (value_count vs) ∙ at_all vs) i)
 
 nodes_at : (vs : Values) (ks : List ℕ)
     → nodes_in (at_positions vs ks) ≡ sum_by (λ k. nodes_of (unwrap_or (nth vs k) (leaf unset))) ks
@@ -163,9 +163,9 @@ pub record Reorders (old : List Cell) (r : Run) (ks : List ℕ) (new : List Cell
 
 low_order : (n : ℕ) (ks : List ℕ) → IsPermutation (range_with_len 0 n) ks → All (λ k. k < n) ks
 low_order n ks p =
-    let size = length-range_with_len 0 n in
+    let value_count = length-range_with_len 0 n in
     All-permutation (λ k. k < n) (range_with_len 0 n) ks p
-    (λ i d l. let at = get_or-range_with_len 0 n i d (omega (arith, l, size)) in omega (arith, at, l, size))
+    (λ i d l. let at = get_or-range_with_len 0 n i d (omega (arith, l, value_count)) in omega (arith, at, l, value_count))
 
 -- a run is written over with its own cells at these positions
 put_reorders : (old : List Cell) (r : Run) (ks : List ℕ) → r.first + r.count ≤ length old
@@ -175,13 +175,13 @@ put_reorders old r ks fits p =
     let inner = mid_of r.first r.count old in
     let cell : ℕ → Cell = λ k. get_or inner k cells.Unset in
     let left = length-drop r.first old in
-    let size : length inner ≡ r.count = length-take-le r.count (drop r.first old) (omega (arith, left, fits)) in
+    let value_count : length inner ≡ r.count = length-take-le r.count (drop r.first old) (omega (arith, left, fits)) in
     let long : length (cells_at inner ks) ≡ r.count = length-map ks cell
     ∙ length_permutation (range_with_len 0 r.count) ks p ∙ length-range_with_len 0 r.count in
     record {
       order = p;
       all = IsPermutation-put_mid r.first r.count old (cells_at inner ks)
-          (subst (λ l. IsPermutation l (cells_at inner ks)) (pick_l_whole cells.Unset inner r.count size)
+          (subst (λ l. IsPermutation l (cells_at inner ks)) (pick_l_whole cells.Unset inner r.count value_count)
           (IsPermutation-map cell (range_with_len 0 r.count) ks p));
       others = others_stay r.first r.count old (cells_at inner ks) fits long;
       moved = λ j q at.
@@ -190,7 +190,7 @@ put_reorders old r ks fits p =
           put_there r.first r.count old (cells_at inner ks) fits long j (omega (arith, within, long, length-map ks cell))
           ∙ slice_get-map cell ks j
           ∙ ap (option_map cell) at
-          ∙ sym (slice_get-get_or inner q cells.Unset (omega (arith, low, size)))
+          ∙ sym (slice_get-get_or inner q cells.Unset (omega (arith, low, value_count)))
           ∙ got_taken r.count (drop r.first old) q low
           ∙ got_dropped r.first old q (r.first + q) refl;
     }
@@ -236,7 +236,7 @@ module _ (column : List Cell) (runs : List Run) (i : ℕ) (r : Run) (at : slice_
 
   run_order : (ks : List ℕ) → IsPermutation (positions_of (row_at rows i)) ks
       → IsPermutation (range_with_len 0 r.count) ks
-  run_order ks = subst (λ n. IsPermutation (range_with_len 0 n) ks) (ap size row_is ∙ run_size (value_at column) r)
+  run_order ks = subst (λ n. IsPermutation (range_with_len 0 n) ks) (ap value_count row_is ∙ run_size (value_at column) r)
 
 leads_all : (names : List ℕ) (cs : List Cell) → All (λ c. LeadTo names (target_of c)) cs
     → LeadTo names (targets_of cs)
@@ -389,7 +389,7 @@ module _ (old : List Cell) (runs : List Run) (h : Holds old runs) (i : ℕ) (r :
   nodes_same : sum_by nodes_in (rows_by new runs) ≡ sum_by nodes_in (rows_by old runs)
   nodes_same =
       let vs = values_of_run old r in
-      let counted : size vs ≡ r.count = run_size (value_at old) r in
+      let counted : value_count vs ≡ r.count = run_size (value_at old) r in
       let order : IsPermutation (positions_of vs) ks =
       subst (λ n. IsPermutation (range_with_len 0 n) ks) (sym counted) m.order in
       let nodes = nodes_stay vs ks order in
@@ -404,7 +404,7 @@ module _ (old : List Cell) (runs : List Run) (h : Holds old runs) (i : ℕ) (r :
       omega (arith, nodes, had, all, moved)
 
   reached_new : AreReached (length new) runs new
-  reached_new k l = elim (h.reached k (let size = same_size in omega (arith, l, size))) [
+  reached_new k l = elim (h.reached k (let value_count = same_size in omega (arith, l, value_count))) [
     | inl there ↦ inl there
     | inr there ↦ inr (there.0, Contains-permutation old new there.0 m.all there.1, there.2)
   ]
@@ -412,7 +412,7 @@ module _ (old : List Cell) (runs : List Run) (h : Holds old runs) (i : ℕ) (r :
   holds_moved : Holds new runs
   holds_moved =
       let count = h.count in
-      let size = same_size in
+      let value_count = same_size in
       let nodes = nodes_same in
       record {
         column_is = column_new;
@@ -423,7 +423,7 @@ module _ (old : List Cell) (runs : List Run) (h : Holds old runs) (i : ℕ) (r :
           outside = All-permutation (IsOutside runs) old new m.all h.apart.outside;
         };
         reached = reached_new;
-        count = omega (arith, count, size, nodes);
+        count = omega (arith, count, value_count, nodes);
       }
 
   leads_moved : (names : List ℕ) → LeadTo names (targets_of old) → LeadTo names (targets_of new)

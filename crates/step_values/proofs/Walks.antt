@@ -1,14 +1,15 @@
 -- Steps over lists of values.
-use Rattle.std.proofs.Common.{◌≡◌, ◌≢◌, ℕ, zero, suc, ◌+◌, Bool, true, false, Some, List, [], ◌∷◌, refl, sym, ◌∙◌, ap, eqb-true, add-one, ◌≤◌, ◌++◌, subst, append_assoc, append-nil, arith}
+use Rattle.std.proofs.Common.{◌≡◌, ◌≢◌, ℕ, zero, suc, ◌+◌, Bool, true, false, cond, Some, List, [], ◌∷◌, refl, sym, ◌∙◌, ap, eqb-true, add-one, ◌≤◌, ◌++◌, subst, append_assoc, append-nil, arith}
 use Rattle.std.specs.Prelude.{◌==◌, ◌&&◌}
 use Rattle.step_values.specs.declared.normal.Normal.{Normal}
 use Rattle.step_values.specs.References.{renamed_each}
-use Rattle.step_values.specs.Values.{Value, bag, Values, none, more}
-use Rattle.step_values.specs.Labels.{Labelling}
-use Rattle.step_values.specs.Slots.{nth}
-use Rattle.step_values.specs.ComputedAgreement.{counts_test, size}
-use Rattle.step_values.specs.ComputedForms.{IsNormal, AreNormal}
-use Rattle.step_values.specs.ComputedLabels.{labelled, each_labelled, same_by, same_each_by}
+use Rattle.step_values.specs.Values.{Value, bag, Values, none, more, is_crowd}
+use Rattle.step_values.specs.Labels.{Labelling, each_renamed_in_bags}
+use Rattle.step_values.specs.steps.Slots.{nth}
+use Rattle.step_values.specs.AgreementTests.{counts_test, value_count}
+use Rattle.step_values.specs.NormalForms.{IsNormal, AreNormal}
+use Rattle.step_values.specs.LabelledValues.{labelled, each_labelled, same_by, same_each_by}
+use Rattle.step_values.proofs.Crowds.{size_renamed, two_sizes}
 
 -- what is left at a place
 abbrev pub after : ℕ → Values → Values
@@ -25,38 +26,44 @@ after_suc (more u vs) (suc i) v e = after_suc vs i v e
 pub after_at : (vs : Values) (i : ℕ) (v : Value) → nth vs i ≡ Some v → after i vs ≡ more v (after (i + 1) vs)
 after_at vs i v e = after_suc vs i v e ∙ ap (λ n. more v (after n vs)) (sym (add-one i))
 
-pub after_all : (vs : Values) (i : ℕ) → size vs ≤ i → after i vs ≡ none
+pub after_all : (vs : Values) (i : ℕ) → value_count vs ≤ i → after i vs ≡ none
 after_all none zero h = refl
 after_all none (suc i) h = refl
 after_all (more v vs) zero h = absurd (omega (arith, h))
 after_all (more v vs) (suc i) h = after_all vs i (omega (arith, h))
 
-size_renamed : (h : ℕ → ℕ) (vs : Values) → size (renamed_each h vs) ≡ size vs
-size_renamed h none = refl
-size_renamed h (more v vs) = ap suc (size_renamed h vs)
-
-pub not_equal : (m n : ℕ) → m ≢ n → (m == n) ≡ false
-not_equal m n h = go (m == n) refl
-  where
-    go : (b : Bool) → (m == n) ≡ b → (m == n) ≡ false
-    go true e = absurd (h (eqb-true m n e))
-    go false e = e
-
-pub bags_of_two_sizes : (f g : Labelling) (vs ws : Values) → size vs ≢ size ws → same_by f g (bag vs) (bag ws) ≡ false
-bags_of_two_sizes f g vs ws n =
-    ap (λ b. b && counts_test (renamed_each f.inside vs) (renamed_each f.inside vs) (renamed_each g.inside ws))
-    (not_equal _ _ (λ e. n (sym (size_renamed f.inside vs) ∙ e ∙ size_renamed g.inside ws)))
-
 and_false : (b : Bool) → (b && false) ≡ false
 and_false true = refl
 and_false false = refl
 
-pub lists_of_two_sizes : (f g : Labelling) (vs ws : Values) → size vs ≢ size ws → same_each_by f g vs ws ≡ false
+pub lists_of_two_sizes : (f g : Labelling) (vs ws : Values) → value_count vs ≢ value_count ws → same_each_by f g vs ws ≡ false
 lists_of_two_sizes f g none none n = absurd (n refl)
 lists_of_two_sizes f g none (more w ws) n = refl
 lists_of_two_sizes f g (more v vs) none n = refl
 lists_of_two_sizes f g (more v vs) (more w ws) n = ap (λ b. same_by f g v w && b)
     (lists_of_two_sizes f g vs ws (λ e. n (ap suc e))) ∙ and_false (same_by f g v w)
+
+-- what stands for the values of a bag are as many
+size_in_bags : (h : ℕ → ℕ) (vs : Values) → value_count (each_renamed_in_bags h vs) ≡ value_count vs
+size_in_bags h none = refl
+size_in_bags h (more v vs) = ap suc (size_in_bags h vs)
+
+size_chosen : (h : ℕ → ℕ) (b : Bool) (vs : Values) → value_count (cond b (renamed_each h vs) (each_renamed_in_bags h vs))
+    ≡ value_count vs
+size_chosen h true vs = size_renamed h vs
+size_chosen h false vs = size_in_bags h vs
+
+pub bags_of_two_sizes : (f g : Labelling) (vs ws : Values) → value_count vs ≢ value_count ws → same_by f g (bag vs) (bag ws) ≡ false
+bags_of_two_sizes f g none none n = absurd (n refl)
+bags_of_two_sizes f g none (more w none) n = refl
+bags_of_two_sizes f g none (more w (more x ws)) n = refl
+bags_of_two_sizes f g (more v none) none n = refl
+bags_of_two_sizes f g (more v none) (more w none) n = absurd (n refl)
+bags_of_two_sizes f g (more v none) (more w (more x ws)) n = and_false _
+bags_of_two_sizes f g (more v (more u vs)) ws n =
+    let us : Values = more v (more u vs) in
+    two_sizes (renamed_each f.inside us) (cond (is_crowd ws) (renamed_each g.inside ws) (each_renamed_in_bags g.inside
+    ws)) (λ e. n (sym (size_renamed f.inside us) ∙ e ∙ size_chosen g.inside (is_crowd ws) ws))
 
 -- Two lists, place by place.
 
@@ -78,9 +85,9 @@ module _ (f g : Labelling) (vs ws : Values) where
   each_goes_on i v w e k h = each_at i v w e k
       ∙ ap (λ b. b && same_each_by f g (after (i + 1) vs) (after (i + 1) ws)) h
 
-  pub each_ends : (i : ℕ) → size vs ≡ size ws → size vs ≤ i → same_each_by f g (after i vs) (after i ws) ≡ true
+  pub each_ends : (i : ℕ) → value_count vs ≡ value_count ws → value_count vs ≤ i → same_each_by f g (after i vs) (after i ws) ≡ true
   each_ends i e l =
-      let m : size ws ≤ i = omega (arith, e, l) in
+      let m : value_count ws ≤ i = omega (arith, e, l) in
       ap (λ us. same_each_by f g us (after i ws)) (after_all vs i l)
       ∙ ap (same_each_by f g none) (after_all ws i m)
 
@@ -98,7 +105,7 @@ collected_more f vs i v n ms e form c ns p =
     c (n ∷ ns) (subst (λ us. AreNormal (each_labelled f us) (n ∷ ns)) (sym (after_at vs i v e)) (form, p)) in
     subst (AreNormal (each_labelled f vs)) (sym (append_assoc ms (n ∷ []) ns)) all
 
-pub collected_all : (f : Labelling) (vs : Values) (i : ℕ) (ms : List Normal) → size vs ≤ i → Collects f vs i ms
+pub collected_all : (f : Labelling) (vs : Values) (i : ℕ) (ms : List Normal) → value_count vs ≤ i → Collects f vs i ms
     → AreNormal (each_labelled f vs) ms
 collected_all f vs i ms h c =
     subst (AreNormal (each_labelled f vs)) (append-nil ms)

@@ -1,6 +1,6 @@
 -- What is inside a value weighs less.
 use Rattle.std.proofs.Common.{◌≡◌, ◌<◌, ◌+◌, ℕ, zero, suc, Some, ap, arith}
-use Rattle.step_values.specs.Slots.{nth}
+use Rattle.step_values.specs.steps.Slots.{nth}
 use Rattle.step_values.specs.Values.{Value, leaf, reference, typed, sequence, bag, Values, none, more}
 
 abbrev mutual

@@ -6,13 +6,8 @@ pub mod Maps
 pub mod Labels
 pub mod Views
 pub mod Cells
-pub mod Targets
-pub mod NodeCounts
-pub mod ComputedCodes
-pub mod Building
-pub mod ComputedAgreement
-pub mod Slots
-pub mod ComputedLabels
-pub mod ComputedForms
+pub mod AgreementTests
+pub mod LabelledValues
+pub mod NormalForms
 pub mod Laws
-pub mod Ordering
+pub mod steps

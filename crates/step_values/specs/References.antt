@@ -1,6 +1,6 @@
 -- The references in values.
-use Rattle.std.specs.Prelude.{⊤, ℕ}
-use Rattle.step_values.specs.Values.{Value, leaf, reference, typed, sequence, bag, Values, none, more}
+use Rattle.std.specs.Prelude.{⊤, ℕ, cond}
+use Rattle.step_values.specs.Values.{Value, leaf, reference, typed, sequence, bag, Values, none, more, is_crowd}
 
 -- each reference y, at any depth, replaced by h y
 abbrev mutual
@@ -28,14 +28,14 @@ abbrev mutual
   EachReferenceOf P none = ⊤
   EachReferenceOf P (more v vs) = EachReference P v × EachReferenceOf P vs
 
--- P holds of each reference at any depth in a bag
+-- P holds of each reference at any depth in a bag of more than one value
 abbrev mutual
   pub EachBagReference : (ℕ → Type 0) → Value → Type 0
   EachBagReference P (leaf a) = ⊤
   EachBagReference P (reference y) = ⊤
   EachBagReference P (typed n v) = EachBagReference P v
   EachBagReference P (sequence vs) = EachBagReferenceOf P vs
-  EachBagReference P (bag vs) = EachReferenceOf P vs
+  EachBagReference P (bag vs) = cond (is_crowd vs) (EachReferenceOf P vs) (EachBagReferenceOf P vs)
 
   pub EachBagReferenceOf : (ℕ → Type 0) → Values → Type 0
   EachBagReferenceOf P none = ⊤

@@ -1,4 +1,4 @@
--- The values that the program's values are.
+-- The values that the types of the program represent.
 use Rattle.std.specs.Prelude.{ℕ, List, [], ◌∷◌, map}
 use Rattle.step_literals.specs.declared.literal.Word.{Word}
 use Rattle.step_literals.specs.declared.literal.Decimal.{Decimal}
@@ -22,7 +22,7 @@ all_of (v ∷ vs) = more v (all_of vs)
 abbrev pub word_of : Word → List ℕ
 word_of w = upper w.text.now
 
--- the leaves that literals are
+-- the leaves that literals represent
 abbrev pub number_leaf : Decimal → Leaf
 number_leaf d = number (units d.text.now)
 
@@ -32,7 +32,7 @@ text_leaf t = text (string_items t.text.now)
 abbrev pub bits_leaf : Bits → Leaf
 bits_leaf b = bits (bits_of b.text.now)
 
--- one value, with each inner one already seen
+-- a value whose inner values are already converted
 abbrev pub value_step : PlainValue-F Value → Value
 value_step layer.Unset = leaf unset
 value_step layer.Derived = leaf derived

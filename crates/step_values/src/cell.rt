@@ -6,7 +6,7 @@ use step_literals::literal::{Bits, Decimal, Text, Word};
 
 const _: () = prove!(size_of::<Cell>() <= 24);
 
-/// One node of a value. Those right inside it stand before it in its column, side by side.
+/// One node of a value. The nodes directly inside it come before it in its column, side by side.
 #[derive(Clone, Copy)]
 pub enum Cell<'a> {
     /// No value.
@@ -21,25 +21,26 @@ pub enum Cell<'a> {
     Bits(Bits<'a>),
     /// An element of an enumeration.
     Element(Word<'a>),
-    /// A reference to the row of this name.
+    /// A reference to the row with this name.
     Reference {
         /// The name of the row.
         name: u64,
-        /// Its number, counted from 0.
+        /// The number of the row, counted from 0.
         row: u32,
     },
-    /// A value with the name of its type. Where the value stands is in two parts, which come first:
-    /// so they fit into the eight bytes that the variant's tag begins, and a cell has 24.
+    /// A value with the name of its type. The index of the value is split into two parts, which
+    /// come first: so they fit into the eight bytes that the variant's tag begins, and a cell has
+    /// 24.
     Typed {
-        /// Its place divided by 2^32, rounded down.
+        /// The index of the value divided by 2^32, rounded down.
         high: u8,
-        /// What is left of its place.
+        /// The remainder of that division.
         low: u32,
         /// The name of the type.
         word: Word<'a>,
     },
-    /// A LIST or an ARRAY: where its values stand, in order.
+    /// A LIST or an ARRAY: the run of its values, in order.
     Sequence(Run),
-    /// A SET or a BAG: where its values stand, in any order.
+    /// A SET or a BAG: the run of its values, in any order.
     Bag(Run),
 }

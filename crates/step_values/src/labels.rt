@@ -1,4 +1,4 @@
-//! What stands for references where values are compared.
+//! Labels that replace references when values are compared.
 
 ghost use Rattle.std.specs.Prelude.{◌≡◌};
 ghost use Rattle.step_values.specs.Labels.{label_test, Labelling, renaming};
@@ -6,12 +6,12 @@ ghost use Rattle.step_values.specs.Maps.{led_by};
 
 use std::collections::BTreeMap;
 
-/// What stands for a reference. A name and a class are never equal.
+/// The label of a reference. A name and a class are never equal.
 #[derive(Clone, Copy, Debug, PartialEq, Eq, PartialOrd, Ord, Hash)]
 pub enum Label {
-    /// The instance of this name.
+    /// The instance with this name.
     Name(u64),
-    /// Some instance of the class of this number.
+    /// Some instance of the class with this number.
     Class(u32),
 }
 
@@ -25,21 +25,21 @@ pub(crate) fn same_label(a: Label, b: Label) -> bool
     }
 }
 
-/// What stands for the references of one side of a comparison.
+/// The labels of references, for one side of a comparison.
 pub trait Labels {
-    /// What stands for a reference, by the name that it has.
+    /// The label and the name for each reference, from the name that it refers to.
     ghost labelling: { Self → Labelling };
 
-    /// The label of a reference that stands in no bag.
+    /// Returns the label of a reference that is in no bag of more than one member.
     fn outside(&self, name: u64) -> Label
         ensures { result ≡ (labelling self.now).outside name };
 
-    /// The name that stands for a reference in a bag.
+    /// Returns the name for a reference in a bag of more than one member.
     fn inside(&self, name: u64) -> u64
         ensures { result ≡ (labelling self.now).inside name };
 }
 
-/// Each reference stands for itself.
+/// The labelling in which each reference keeps its name.
 #[derive(Clone, Copy)]
 pub struct Itself;
 
@@ -58,14 +58,14 @@ impl Labels for Itself {
 /// A finite map from names to names.
 pub type Map = BTreeMap<u64, u64>;
 
-/// Where the map leads a name; a name that it lacks stays.
+/// Returns the image of `name` under the map, or `name` itself if the map lacks it.
 pub fn lead(map: &Map, name: u64) -> u64
     ensures { result ≡ led_by map.now name }
 {
     map.get(&name).copied().unwrap_or(name)
 }
 
-/// Each reference stands for that to which the map leads it.
+/// The labelling in which each reference becomes its image under the map.
 impl Labels for Map {
     ghost labelling = { λ m. renaming (led_by m) };
 

@@ -1,4 +1,4 @@
-//! Laws of the definitions alone.
+//! Laws about the definitions, apart from any code.
 
 ghost use Rattle.step_values.specs.Laws.{
   CellsAskTheirChildren,
@@ -7,31 +7,31 @@ ghost use Rattle.step_values.specs.Laws.{
 };
 ghost use Rattle.step_values.specs.Shapes.{AgreementIsByShapes, ChangesDecide};
 
-/// The tests of values and of lists of values pass exactly where these agree, each reference with
-/// itself alone.
+/// The tests of values and of lists of values pass exactly if these agree, where each reference
+/// agrees with itself alone.
 pub fn tests_decide_agreement()
     ensures { TestsDecideAgreement }
 {}
 
-/// Normal forms are equal exactly where the values agree, by what stands for their references.
+/// Normal forms are equal exactly if the values agree according to the labels of their references.
 pub fn normal_forms_decide_agreement()
     ensures { NormalFormsDecideAgreement }
 {}
 
-/// What a cell says of a value depends on what is inside it alone, so that the laws of columns hold
-/// for columns of values.
+/// The value of a cell depends only on what is inside it, so the laws of columns hold for columns
+/// of values.
 pub fn a_cell_asks_what_is_inside()
     ensures { CellsAskTheirChildren }
 {}
 
-/// Values agree under a test exactly where they have one shape, and the test passes their references
-/// outside bags one by one.
+/// Values agree under a test exactly if they have one shape and the test passes their references
+/// outside bags of more than one value, pair by pair.
 pub fn agreement_is_by_shapes()
     ensures { AgreementIsByShapes }
 {}
 
-/// Where classes get new numbers, references whose numbers were equal one by one have equal ones
-/// exactly where those that changed are, at the same places.
+/// If classes get new numbers, references whose old numbers were equal pair by pair have equal new
+/// numbers exactly if the changed ones are equal, at equal positions.
 pub fn changes_decide()
     ensures { ChangesDecide }
 {}

@@ -1,10 +1,9 @@
 //! Values of instances of an exchange structure (ISO 10303-21), and when two of them agree.
 //!
-//! A value is compared by what it means: a literal by its value, a LIST or an ARRAY place by place, a SET or a BAG
-//! whatever the order of its members.
+//! Values are compared by meaning: a literal by its value, a LIST or an ARRAY position by position,
+//! a SET or a BAG regardless of the order of its members.
 #![tactic(auto)]
 
-pub mod agree;
 pub mod cell;
 pub mod labels;
 pub mod laws;
@@ -15,3 +14,4 @@ pub mod row_builder;
 pub mod rows;
 pub mod slot;
 pub mod value;
+pub mod value_agreement;

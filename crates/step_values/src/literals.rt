@@ -1,8 +1,8 @@
-//! Literals are compared by value.
+//! Comparison of literals by value.
 
 ghost use Rattle.std.specs.Prelude.{◌≡◌};
 ghost use Rattle.std.specs.Str.{bytes_eq};
-ghost use Rattle.step_values.specs.ComputedAgreement.{leaf_test};
+ghost use Rattle.step_values.specs.AgreementTests.{leaf_test};
 ghost use Rattle.step_values.specs.Views.{word_of, number_leaf, text_leaf, bits_leaf};
 
 use step_literals::literal::{Bits, Decimal, Text, Word};
@@ -25,7 +25,7 @@ pub(crate) fn same_bits<'a, 'b>(a: &Bits<'a>, b: &Bits<'b>) -> bool
     *a == *b
 }
 
-/// Whether two words are equal, whatever the case of their letters.
+/// Whether two words are equal, regardless of case.
 pub fn same_word<'a, 'b>(word: &Word<'a>, other: &Word<'b>) -> bool
     ensures { result ≡ bytes_eq (word_of word.now) (word_of other.now) }
 {

@@ -1,18 +1,21 @@
-//! Normal forms of values: the label of each reference in its place, the members of each bag in order.
+//! Normal forms of values: each reference is replaced by its label, and the members of each bag are
+//! sorted.
 //!
-//! Two values agree, by what stands for their references, exactly where their normal forms are equal.
+//! Two values agree, according to the labels of their references, exactly if their normal forms are
+//! equal.
 
-ghost use Rattle.std.specs.Prelude.{◌≡◌, IfOk};
-ghost use Rattle.step_values.specs.ComputedForms.{IsNormal, AreNormal, AreSorted};
-ghost use Rattle.step_values.specs.ComputedLabels.{labelled, each_labelled, placed, within};
-ghost use Rattle.step_values.specs.Slots.{node_value};
+ghost use Rattle.std.specs.Prelude.{◌≡◌, ◌||◌, IfOk};
+ghost use Rattle.step_values.specs.NormalForms.{IsNormal, AreNormal, AreSorted};
+ghost use Rattle.step_values.specs.LabelledValues.{labelled, each_labelled, placed};
+ghost use Rattle.step_values.specs.steps.Slots.{node_value};
+ghost use Rattle.step_values.specs.Values.{is_crowd};
 
 use crate::labels::{Label, Labels};
 use crate::slot::{Node, Slot, Slots};
 use std::alloc::{AllocError, Global};
 use step_literals::literal::{Bits, Decimal, Text, Word};
 
-/// A value in normal form. Where variants differ, the order is that in which they stand here.
+/// A value in normal form. Different variants are ordered as they are declared here.
 #[derive(PartialEq, Eq, PartialOrd, Ord, Hash, Drop)]
 pub enum Normal<'a> {
     Unset,
@@ -21,7 +24,7 @@ pub enum Normal<'a> {
     Text(Text<'a>),
     Bits(Bits<'a>),
     Element(Word<'a>),
-    /// What stands for the reference; in a bag a name.
+    /// The label of the reference; in a bag of more than one member a name.
     Reference(Label),
     Typed(Word<'a>, Box<Normal<'a>>),
     Sequence(Vec<Normal<'a>>),
@@ -29,9 +32,7 @@ pub enum Normal<'a> {
     Bag(Vec<Normal<'a>>),
 }
 
-/// The normal form of a value.
-///
-/// `AllocError` comes where memory runs out.
+/// Returns the normal form of a value.
 pub fn normal_form<'p, 'a: 'c, 'c, F: Labels>(
     alloc: Global,
     f: &F,
@@ -42,9 +43,8 @@ pub fn normal_form<'p, 'a: 'c, 'c, F: Labels>(
     form(alloc, f, false, value)
 }
 
-/// The normal forms of some values: those of two lists are equal exactly where the lists agree place by place.
-///
-/// `AllocError` comes where memory runs out.
+/// Returns the normal forms of `values`: those of two lists are equal exactly if the lists agree
+/// position by position.
 pub fn normal_forms<'p, 'a: 'c, 'c, F: Labels>(
     alloc: Global,
     f: &F,
@@ -56,24 +56,46 @@ pub fn normal_forms<'p, 'a: 'c, 'c, F: Labels>(
     forms(alloc, f, false, values)
 }
 
-/// The normal forms of the members of a bag, sorted: those of two bags are equal exactly where the bags agree.
-///
-/// `AllocError` comes where memory runs out.
-#[cycle(normal)]
+/// Returns the sorted normal forms of the members of a bag: those of two bags are equal exactly if
+/// the bags agree.
 pub fn sorted_forms<'p, 'a: 'c, 'c, F: Labels>(
     alloc: Global,
     f: &F,
     values: &Slots<'p, 'a>,
 ) -> Result<Vec<Normal<'c>>, AllocError>
-    ensures { IfOk result
-        (λ ns. AreSorted (each_labelled (within (F.labelling f.now)) values.now) ns.items) }
+    ensures { IfOk result (λ ns. AreSorted
+        (each_labelled (placed (is_crowd values.now) (F.labelling f.now)) values.now) ns.items) }
 {
-    let mut forms = forms(alloc, f, true, values)?;
+    members(alloc, f, false, values)
+}
+
+/// Whether references in this bag become names: it has more than one member, or is inside a bag
+/// that has.
+fn is_by_name<'p, 'a>(in_bag: bool, values: &Slots<'p, 'a>) -> bool
+    ensures { result ≡ (in_bag || is_crowd values.now) }
+{
+    in_bag || values.is_crowd()
+}
+
+/// Returns the normal forms of the members of a bag, sorted.
+#[cycle(normal)]
+fn members<'p, 'a: 'c, 'c, F: Labels>(
+    alloc: Global,
+    f: &F,
+    in_bag: bool,
+    values: &Slots<'p, 'a>,
+) -> Result<Vec<Normal<'c>>, AllocError>
+    ensures { IfOk result (λ ns. AreSorted
+        (each_labelled (placed (is_crowd values.now) (placed in_bag (F.labelling f.now)))
+        values.now)
+        ns.items) }
+{
+    let mut forms = forms(alloc, f, is_by_name(in_bag, values), values)?;
     forms.sort_unstable();
     Ok(forms)
 }
 
-/// What stands for a reference, in a bag or outside.
+/// Returns the label of a reference, inside a bag of more than one member or outside.
 fn label<F: Labels>(f: &F, in_bag: bool, name: u64) -> Label
     ensures { result ≡ (placed in_bag (F.labelling f.now)).outside name }
 {
@@ -120,7 +142,7 @@ fn node_form<'p, 'a: 'c, 'c, F: Labels>(
             Ok(Normal::Typed(*word, Box::new(alloc, inner)?))
         }
         Node::Sequence(values) => Ok(Normal::Sequence(forms(alloc, f, in_bag, values)?)),
-        Node::Bag(values) => Ok(Normal::Bag(sorted_forms(alloc, f, values)?)),
+        Node::Bag(values) => Ok(Normal::Bag(members(alloc, f, in_bag, values)?)),
     }
 }
 

@@ -1,12 +1,12 @@
-//! Places in a column, in five bytes.
+//! Indices of a column, in five bytes.
 
 ghost use Rattle.std.specs.Prelude.{◌≡◌, ◌<◌, ◌≤◌, ◌^◌, MatchOption};
 ghost use Rattle.step_values.specs.Cells.{inner_of};
 
-// So many places have one high part.
+// The number of indices that share a high part.
 const PART: usize = 1 << 32;
 
-/// The high and the low part of a place, where it is below 2^40.
+/// Returns the high and the low part of `place`, or `None` if it is 2^40 or more.
 pub(crate) fn split(place: usize) -> Option<(u8, u32)>
     ensures { MatchOption result
         (2 ^ 40 ≤ place)
@@ -18,7 +18,7 @@ pub(crate) fn split(place: usize) -> Option<(u8, u32)>
     }
 }
 
-/// The place of two parts.
+/// Returns the index that has these two parts.
 pub(crate) fn join(high: u8, low: u32) -> usize
     ensures { result ≡ inner_of high low }
 {

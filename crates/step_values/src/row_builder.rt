@@ -1,4 +1,4 @@
-//! Rows of values that are put together.
+//! Building rows of values.
 
 ghost use Rattle.std.specs.Prelude.{
   ◌≡◌,
@@ -18,7 +18,7 @@ ghost use Rattle.std.specs.Prelude.{
 };
 ghost use Rattle.step_values.specs.Cells.{flat_value, reach_of};
 ghost use Rattle.step_values.specs.Leaves.{unset, derived, element};
-ghost use Rattle.step_values.specs.Targets.{LeadTo, ReferTo, target_of};
+ghost use Rattle.step_values.specs.steps.Targets.{LeadTo, ReferTo, target_of};
 ghost use Rattle.step_values.specs.Values.{Value, leaf, reference, typed, sequence, bag};
 ghost use Rattle.step_values.specs.Views.{
   all_of,
@@ -37,10 +37,10 @@ use std::marker::Model;
 use std::mem;
 use step_literals::literal::{Bits, Decimal, Text, Word};
 
-/// Rows of values over the names of all rows, laid down in one column as they are pushed.
+/// Rows of values over the names of all rows, written to one column as values are pushed.
 ///
-/// Each value is pending until what it stands in is closed: a typed value, a list, or a row. Behind
-/// want of memory the values that were pending and the rows may be lost; the names stay.
+/// Each value is pending until its container is closed: a typed value, a list, or a row. If memory
+/// runs out, pending values and rows may be lost; the names stay.
 #[derive(Drop)]
 pub struct RowBuilder<'n, 'a> {
     names: &'n [u64],
@@ -50,7 +50,7 @@ pub struct RowBuilder<'n, 'a> {
 }
 
 impl<'n, 'a> Model for RowBuilder<'n, 'a> {
-    ghost use Rattle.step_values.specs.Building.{Building, coded_building, built, Builds};
+    ghost use Rattle.step_values.specs.steps.Building.{Building, coded_building, built, Builds};
 
     ghost Value = { Building };
 
@@ -62,8 +62,8 @@ impl<'n, 'a> Model for RowBuilder<'n, 'a> {
 }
 
 impl<'n, 'a> RowBuilder<'n, 'a> {
-    /// No value and no row yet, over the names of all rows that there will be: that of row 0, that
-    /// of row 1, and so on. It takes no memory.
+    /// Returns a builder without values and rows, over the names of all rows that there will be, in
+    /// order of their numbers. It allocates nothing.
     pub fn new(alloc: Global, names: &'n [u64]) -> Self
         ensures { result ≡ record { names = names.now; rows = []; pending = [] } }
     {
@@ -75,8 +75,8 @@ impl<'n, 'a> RowBuilder<'n, 'a> {
         }
     }
 
-    /// Asks for room for so many more cells and rows. `Err` says that memory has no such room;
-    /// nothing else changes either way, and what is pushed later asks for as much as it needs.
+    /// Reserves room for `cells` more cells and `rows` more rows. The values stay the same, even if
+    /// memory runs out; later pushes allocate whatever they need.
     pub fn reserve(&mut self, cells: usize, rows: usize) -> Result<(), AllocError>
         ensures { self.new ≡ self.old }
     {
@@ -84,14 +84,14 @@ impl<'n, 'a> RowBuilder<'n, 'a> {
         self.runs.reserve(rows)
     }
 
-    /// How many values are pending: a list that opens now is closed with this mark.
+    /// Returns the number of pending values: the mark for closing a list that opens now.
     pub fn pending_len(&self) -> usize
         ensures { result ≡ length self.now.pending }
     {
         self.cells.pending_len()
     }
 
-    /// One more value is pending, an unset one.
+    /// Adds an unset value to the pending values.
     pub fn push_unset(&mut self) -> Result<(), AllocError>
         ensures { MatchResult result
             (λ _. self.new ≡ record self.old {
@@ -102,7 +102,7 @@ impl<'n, 'a> RowBuilder<'n, 'a> {
         self.push(Cell::Unset)
     }
 
-    /// One more value is pending, that of a redeclared attribute that is derived.
+    /// Adds the value of a redeclared attribute that is derived to the pending values.
     pub fn push_derived(&mut self) -> Result<(), AllocError>
         ensures { MatchResult result
             (λ _. self.new ≡ record self.old {
@@ -113,7 +113,7 @@ impl<'n, 'a> RowBuilder<'n, 'a> {
         self.push(Cell::Derived)
     }
 
-    /// One more value is pending, a number.
+    /// Adds a number to the pending values.
     pub fn push_number(&mut self, number: Decimal<'a>) -> Result<(), AllocError>
         ensures { MatchResult result
             (λ _. self.new ≡ record self.old {
@@ -124,7 +124,7 @@ impl<'n, 'a> RowBuilder<'n, 'a> {
         self.push(Cell::Number(number))
     }
 
-    /// One more value is pending, a string.
+    /// Adds a string to the pending values.
     pub fn push_text(&mut self, text: Text<'a>) -> Result<(), AllocError>
         ensures { MatchResult result
             (λ _. self.new ≡ record self.old {
@@ -135,7 +135,7 @@ impl<'n, 'a> RowBuilder<'n, 'a> {
         self.push(Cell::Text(text))
     }
 
-    /// One more value is pending, a binary.
+    /// Adds a binary to the pending values.
     pub fn push_bits(&mut self, bits: Bits<'a>) -> Result<(), AllocError>
         ensures { MatchResult result
             (λ _. self.new ≡ record self.old {
@@ -146,7 +146,7 @@ impl<'n, 'a> RowBuilder<'n, 'a> {
         self.push(Cell::Bits(bits))
     }
 
-    /// One more value is pending, an element of an enumeration.
+    /// Adds an element of an enumeration to the pending values.
     pub fn push_element(&mut self, word: Word<'a>) -> Result<(), AllocError>
         ensures { MatchResult result
             (λ _. self.new ≡ record self.old {
@@ -157,7 +157,7 @@ impl<'n, 'a> RowBuilder<'n, 'a> {
         self.push(Cell::Element(word))
     }
 
-    /// One more value is pending, a reference to the row of this name, which has this number.
+    /// Adds a reference to the row with this name and number to the pending values.
     pub fn push_reference(&mut self, name: u64, row: u32) -> Result<(), AllocError>
         requires { slice_get self.old.names row ≡ Some name }
         ensures { MatchResult result
@@ -169,7 +169,7 @@ impl<'n, 'a> RowBuilder<'n, 'a> {
         self.push(Cell::Reference { name, row })
     }
 
-    // One more value is pending, that of a cell with nothing inside.
+    // Adds the value of a cell that has nothing inside to the pending values.
     fn push(&mut self, cell: Cell<'a>) -> Result<(), AllocError>
         requires flat { reach_of cell ≡ 0 }
         requires leads { LeadTo self.old.names (target_of cell) }
@@ -183,8 +183,9 @@ impl<'n, 'a> RowBuilder<'n, 'a> {
         Ok(())
     }
 
-    /// The last value that is pending becomes one with the name of its type. Where there are 2^40
-    /// cells there is no memory for it.
+    /// Replaces the last pending value by a typed value around it, with the name of its type.
+    ///
+    /// Fails with `AllocError` if memory runs out, and if the column has 2^40 cells or more.
     pub fn close_typed(&mut self, word: Word<'a>) -> Result<(), AllocError>
         requires { 0 < length self.old.pending }
         ensures names { self.new.names ≡ self.old.names }
@@ -202,8 +203,7 @@ impl<'n, 'a> RowBuilder<'n, 'a> {
         Ok(())
     }
 
-    /// The values that are pending behind a mark become one LIST or ARRAY, which is pending in
-    /// their place.
+    /// Replaces the pending values from `mark` on by one LIST or ARRAY of them.
     pub fn close_sequence(&mut self, mark: usize) -> Result<(), AllocError>
         requires { mark ≤ length self.old.pending }
         ensures { MatchResult result
@@ -223,8 +223,7 @@ impl<'n, 'a> RowBuilder<'n, 'a> {
         Ok(())
     }
 
-    /// The values that are pending behind a mark become one SET or BAG, which is pending in their
-    /// place.
+    /// Replaces the pending values from `mark` on by one SET or BAG of them.
     pub fn close_bag(&mut self, mark: usize) -> Result<(), AllocError>
         requires { mark ≤ length self.old.pending }
         ensures { MatchResult result
@@ -239,7 +238,7 @@ impl<'n, 'a> RowBuilder<'n, 'a> {
         Ok(())
     }
 
-    /// All values that are pending become the next row.
+    /// Makes all pending values the next row.
     pub fn close_row(&mut self) -> Result<(), AllocError>
         ensures { MatchResult result
             (λ _. self.new ≡ record self.old {
@@ -257,7 +256,7 @@ impl<'n, 'a> RowBuilder<'n, 'a> {
         Ok(())
     }
 
-    /// The rows, once no value is pending.
+    /// Returns the rows, once no value is pending.
     pub fn finish(self) -> ValueRows<'a>
         requires { self.pending ≡ [] }
         ensures rows { result.rows ≡ self.entry.rows }
@@ -268,8 +267,8 @@ impl<'n, 'a> RowBuilder<'n, 'a> {
     }
 }
 
-// One more cell is pending. Where memory runs out no cell and no row is left, so that what is left
-// has one cell for each node.
+// Adds a cell to the pending cells. If memory runs out, all cells and rows are cleared, so that
+// what remains has one cell for each node.
 fn push_or_clear<'a>(
     alloc: Global,
     cells: &mut Column<Cell<'a>>,

@@ -18,10 +18,10 @@ ghost use Rattle.std.specs.Prelude.{
 ghost use Rattle.std.specs.List.{All, sum_by};
 ghost use Rattle.parsing.specs.Nodes.{IsColumn};
 ghost use Rattle.step_values.specs.Cells.{value_nodes};
-ghost use Rattle.step_values.specs.NodeCounts.{nodes_in};
-ghost use Rattle.step_values.specs.Building.{AreRunsOf, Holds, rows_by};
-ghost use Rattle.step_values.specs.Ordering.{at_positions, cells_at, cells_of, positions_of, row_at, written_over};
-ghost use Rattle.step_values.specs.Targets.{LeadTo, targets_of};
+ghost use Rattle.step_values.specs.steps.NodeCounts.{nodes_in};
+ghost use Rattle.step_values.specs.steps.Building.{AreRunsOf, Holds, rows_by};
+ghost use Rattle.step_values.specs.steps.Ordering.{at_positions, cells_at, cells_of, positions_of, row_at, written_over};
+ghost use Rattle.step_values.specs.steps.Targets.{LeadTo, targets_of};
 
 use crate::cell::Cell;
 use crate::slot::Slots;
@@ -29,7 +29,7 @@ use parsing::column::Run;
 use std::alloc::AllocError;
 use std::marker::Model;
 
-/// Rows of values, each of them side by side, in one column of cells.
+/// Rows of values in one column of cells; the values of each row are side by side.
 #[derive(Drop)]
 pub struct ValueRows<'a> {
     column: Vec<Cell<'a>>,
@@ -37,8 +37,8 @@ pub struct ValueRows<'a> {
 }
 
 impl<'a> Model for ValueRows<'a> {
-    ghost use Rattle.step_values.specs.Building.{Kept, coded_kept, Holds, rows_by};
-    ghost use Rattle.step_values.specs.Targets.{targets_of};
+    ghost use Rattle.step_values.specs.steps.Building.{Kept, coded_kept, Holds, rows_by};
+    ghost use Rattle.step_values.specs.steps.Targets.{targets_of};
 
     ghost Value = { Kept };
 
@@ -53,7 +53,7 @@ impl<'a> Model for ValueRows<'a> {
 }
 
 impl<'a> ValueRows<'a> {
-    /// The rows that these runs of a column are.
+    /// Returns the rows that are these runs of the column.
     pub(crate) fn of(column: Vec<Cell<'a>>, runs: Vec<Run>) -> ValueRows<'a>
         requires { Holds column.items runs.items }
         ensures rows { result.rows ≡ rows_by column.entry.items runs.items }
@@ -62,14 +62,14 @@ impl<'a> ValueRows<'a> {
         ValueRows { column, runs }
     }
 
-    /// How many rows they are.
+    /// Returns the number of rows.
     pub fn len(&self) -> usize
         ensures { result ≡ length self.now.rows }
     {
         self.runs.len()
     }
 
-    /// The values of a row, counted from 0. It takes no memory.
+    /// Returns the values of the row with this number, counted from 0. It allocates nothing.
     pub fn row(&self, index: usize) -> Slots<'_, 'a>
         requires { index < length self.now.rows }
         ensures { slice_get self.now.rows index ≡ Some result }
@@ -77,9 +77,9 @@ impl<'a> ValueRows<'a> {
         Slots::of(&self.column, self.runs[index])
     }
 
-    /// Puts the values of a row into another order: each place gets the value that stood at the
-    /// position that is given for it. `spare` lends its room, and what it held is forgotten. Where
-    /// memory runs out the rows are as they were.
+    /// Reorders the values of a row: the value at index `i` becomes the one that was at
+    /// `positions[i]`. `spare` is a buffer, whose content is lost. If memory runs out, the rows
+    /// stay as they were.
     pub fn reorder(
         &mut self,
         index: usize,
@@ -101,8 +101,8 @@ impl<'a> ValueRows<'a> {
         Ok(())
     }
 
-    /// The whole column, the values of each row side by side: one cell for each node of a value,
-    /// what is inside each before it. It takes no memory.
+    /// Returns the whole column, the values of each row side by side: one cell for each node of a
+    /// value, after the cells that are inside it. It allocates nothing.
     pub fn cells(&self) -> &[Cell<'a>]
         ensures column { IsColumn value_nodes result.now }
         ensures count { length result.now ≡ sum_by nodes_in self.now.rows }
@@ -113,7 +113,7 @@ impl<'a> ValueRows<'a> {
     }
 }
 
-// Copies the cells at these positions, in place of what was there.
+// Replaces the content of `picked` by the cells at these positions.
 fn pick<'a>(
     picked: &mut Vec<Cell<'a>>,
     cells: &[Cell<'a>],
@@ -129,7 +129,7 @@ fn pick<'a>(
     Ok(())
 }
 
-// The cells of a run.
+// Returns the cells of a run.
 fn cells_of<'c, 'a>(column: &'c [Cell<'a>], run: Run) -> &'c [Cell<'a>]
     requires { run.first + run.count ≤ length column.now }
     ensures { result.now ≡ cells_of column.now run }
@@ -137,7 +137,7 @@ fn cells_of<'c, 'a>(column: &'c [Cell<'a>], run: Run) -> &'c [Cell<'a>]
     &column[run.first..run.first + run.count]
 }
 
-// Writes cells in the place of a run.
+// Overwrites the cells of a run.
 fn write_over<'a>(column: &mut [Cell<'a>], run: Run, cells: &[Cell<'a>])
     requires within { run.first + run.count ≤ length column.old }
     requires each { length cells.now ≡ run.count }

@@ -1,4 +1,4 @@
-//! Values as readers see them, whatever they are kept in: by their outermost parts.
+//! Views of values by their outermost parts.
 
 ghost use Rattle.std.specs.Prelude.{◌≡◌, ◌<◌, ◌≤◌, ◌+◌, Some, length};
 ghost use Rattle.parsing.specs.Nodes.{IsColumn};
@@ -9,8 +9,9 @@ ghost use Rattle.step_values.specs.Cells.{
   value_nodes,
   values_of_run,
 };
-ghost use Rattle.step_values.specs.ComputedAgreement.{size};
-ghost use Rattle.step_values.specs.Slots.{node_value, kind_of, len_of, item_of, nth};
+ghost use Rattle.step_values.specs.AgreementTests.{value_count};
+ghost use Rattle.step_values.specs.steps.Slots.{node_value, kind_of, len_of, item_of, nth};
+ghost use Rattle.step_values.specs.Values.{is_crowd};
 
 use crate::cell::Cell;
 use crate::place::join;
@@ -18,7 +19,7 @@ use parsing::column::Run;
 use std::marker::Model;
 use step_literals::literal::{Bits, Decimal, Text, Word};
 
-/// A value, where it is kept.
+/// A view of a value in a column.
 #[derive(Drop)]
 pub struct Slot<'p, 'a> {
     column: &'p [Cell<'a>],
@@ -30,7 +31,7 @@ impl<'p, 'a> Model for Slot<'p, 'a> {
     ghost use Rattle.parsing.specs.Nodes.{IsColumn};
     ghost use Rattle.step_values.specs.Values as values;
     ghost use Rattle.step_values.specs.Cells.{value_nodes, value_at};
-    ghost use Rattle.step_values.specs.ComputedCodes.{coded_value};
+    ghost use Rattle.step_values.specs.steps.ComputedCodes.{coded_value};
 
     ghost Value = { values.Value };
 
@@ -41,7 +42,7 @@ impl<'p, 'a> Model for Slot<'p, 'a> {
     ghost invariant = { λ s. IsColumn value_nodes s.column.now × (s.place < length s.column.now) };
 }
 
-/// Values side by side, where they are kept.
+/// A view of values side by side in a column.
 #[derive(Drop)]
 pub struct Slots<'p, 'a> {
     column: &'p [Cell<'a>],
@@ -53,7 +54,7 @@ impl<'p, 'a> Model for Slots<'p, 'a> {
     ghost use Rattle.parsing.specs.Nodes.{IsColumn};
     ghost use Rattle.step_values.specs.Values.{Values};
     ghost use Rattle.step_values.specs.Cells.{value_nodes, values_of_run};
-    ghost use Rattle.step_values.specs.ComputedCodes.{coded_values};
+    ghost use Rattle.step_values.specs.steps.ComputedCodes.{coded_values};
 
     ghost Value = { Values };
 
@@ -80,8 +81,8 @@ pub enum Node<'p, 'a> {
     Bits(Bits<'a>),
     /// An element of an enumeration.
     Element(Word<'a>),
-    /// A reference to the row of this name, and the number of that row, counted from 0, as its cell has
-    /// it: a hint, of which no clause speaks.
+    /// A reference to the row with this name, and the number of that row, counted from 0. The
+    /// number is a hint: contracts don't mention it.
     Reference(u64, u32),
     /// A value with the name of its type.
     Typed(Word<'a>, Slot<'p, 'a>),
@@ -91,7 +92,7 @@ pub enum Node<'p, 'a> {
     Bag(Slots<'p, 'a>),
 }
 
-/// What kind of value a slot has.
+/// The kind of a value.
 #[derive(Clone, Copy, Debug, PartialEq, Eq)]
 pub enum Kind {
     Unset,
@@ -107,7 +108,7 @@ pub enum Kind {
 }
 
 impl<'p, 'a> Slot<'p, 'a> {
-    // The value at a place of a column.
+    // Returns the value at an index of a column.
     fn of(column: &'p [Cell<'a>], place: usize) -> Slot<'p, 'a>
         requires column { IsColumn value_nodes column.now }
         requires place { place < length column.now }
@@ -116,21 +117,21 @@ impl<'p, 'a> Slot<'p, 'a> {
         Slot { column, place }
     }
 
-    /// The same value once more.
+    /// Returns another view of the value.
     pub fn again(&self) -> Slot<'p, 'a>
         ensures { result ≡ self.now }
     {
         Slot::of(self.column, self.place)
     }
 
-    /// The outermost part of the value, with what is inside it.
+    /// Returns the outermost part of the value, with what is inside it.
     pub fn node(&self) -> Node<'p, 'a>
         ensures { node_value result ≡ self.now }
     {
         cell_node(self.column, self.column[self.place])
     }
 
-    /// What kind of value it is.
+    /// Returns the kind of the value.
     pub fn kind(&self) -> Kind
         ensures { result ≡ kind_of self.now }
     {
@@ -148,7 +149,8 @@ impl<'p, 'a> Slot<'p, 'a> {
         }
     }
 
-    /// How many values are right inside it: 1 in a typed value, 0 in one with no parts.
+    /// Returns the number of values directly inside it: 1 for a typed value, 0 for a value without
+    /// parts.
     pub fn len(&self) -> usize
         ensures { result ≡ len_of self.now }
     {
@@ -160,7 +162,7 @@ impl<'p, 'a> Slot<'p, 'a> {
         }
     }
 
-    /// One of the values right inside it, counted from 0; none where there are no more.
+    /// Returns the value with this index directly inside it, counted from 0, if any.
     pub fn item(&self, index: usize) -> Option<Slot<'p, 'a>>
         ensures { result ≡ item_of self.now index }
     {
@@ -174,7 +176,7 @@ impl<'p, 'a> Slot<'p, 'a> {
 }
 
 impl<'p, 'a> Slots<'p, 'a> {
-    /// The values of a run of a column.
+    /// Returns the values of a run of a column.
     pub(crate) fn of(column: &'p [Cell<'a>], run: Run) -> Slots<'p, 'a>
         requires column { IsColumn value_nodes column.now }
         requires within { run.first + run.count ≤ length column.now }
@@ -183,21 +185,28 @@ impl<'p, 'a> Slots<'p, 'a> {
         Slots { column, run }
     }
 
-    /// The same values once more.
+    /// Returns another view of the values.
     pub fn again(&self) -> Slots<'p, 'a>
         ensures { result ≡ self.now }
     {
         Slots::of(self.column, self.run)
     }
 
-    /// How many values they are.
+    /// Returns the number of values.
     pub fn len(&self) -> usize
-        ensures { result ≡ size self.now }
+        ensures { result ≡ value_count self.now }
     {
         self.run.count
     }
 
-    /// The value at a place, counted from 0; none where there are no more.
+    /// Whether there is more than one value.
+    pub fn is_crowd(&self) -> bool
+        ensures { result ≡ is_crowd self.now }
+    {
+        self.len() > 1
+    }
+
+    /// Returns the value at `index`, counted from 0, if any.
     pub fn item(&self, index: usize) -> Option<Slot<'p, 'a>>
         ensures { result ≡ nth self.now index }
     {
@@ -208,16 +217,16 @@ impl<'p, 'a> Slots<'p, 'a> {
         }
     }
 
-    /// The value at a place that there is, counted from 0.
+    /// Returns the value at `index`, counted from 0.
     pub fn at(&self, index: usize) -> Slot<'p, 'a>
-        requires { index < size self.now }
+        requires { index < value_count self.now }
         ensures { nth self.now index ≡ Some result }
     {
         Slot::of(self.column, self.run.first + index)
     }
 }
 
-// The outermost part of the value that a cell over a column says.
+// Returns the outermost part of the value that a cell over a column represents.
 fn cell_node<'p, 'a>(column: &'p [Cell<'a>], cell: Cell<'a>) -> Node<'p, 'a>
     requires column { IsColumn value_nodes column.now }
     requires within { reach_of cell ≤ length column.now }

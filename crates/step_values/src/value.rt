@@ -14,7 +14,7 @@ pub enum PlainValue<'a> {
     Bits(Bits<'a>),
     /// An element of an enumeration.
     Element(Word<'a>),
-    /// A reference to the row of this name.
+    /// A reference to the row with this name.
     Reference(u64),
     /// A value with the name of its type.
     Typed(Word<'a>, Box<PlainValue<'a>>),

@@ -1,16 +1,19 @@
-//! `stepmin` reads STEP files (ISO 10303-21). `stepmin plain FILE` writes a file's normal text,
-//! `stepmin check SCHEMA FILE` tells where it breaks its schema, `stepmin shrink SCHEMA FILE OUT CERT`
-//! writes it with its value-equal instances merged, and a certificate of that, and `stepmin verify`
-//! with the same words tells whether a certificate proves an output.
+//! `stepmin` reads STEP files (ISO 10303-21).
+//!
+//! - `stepmin plain FILE` writes the normal text of a file.
+//! - `stepmin check SCHEMA FILE` reports where a file breaks its schema.
+//! - `stepmin shrink SCHEMA FILE OUT CERT` writes a file with its value-equal instances merged, and a
+//!   certificate of the merge.
+//! - `stepmin verify SCHEMA FILE OUT CERT` reports whether a certificate proves an output.
 #![tactic(auto)]
 
-use command_line::merging::ShrinkRequest;
-use command_line::usage::{Refusal, Request, read_words, unread_words};
+use command_line::command_words::{Refusal, Request, read_words, unread_words};
+use command_line::merge_words::ShrinkRequest;
 use commands::command::{refuse, refuse_to_read, run_command};
 use devices::counted::Counted;
 use devices::device::Sink;
 use file_store::folder::Folder;
-use file_store::same::lead_to_one;
+use file_store::path_identity::lead_to_one;
 use files::fault::print_line;
 use std::alloc::Global;
 use std::env::Env;
@@ -20,20 +23,20 @@ use std::process::ExitCode;
 use std::random::RandomSource;
 use std::rt::Files;
 
-/// The status where all is done.
+/// The exit status if everything is done.
 const DONE: u8 = 0;
 
-/// The status where a device fails.
+/// The exit status if a device fails.
 const DEVICE: u8 = 4;
 
-// The words of the command line. An error is `OutOfMemory` where memory runs out.
+// Returns the arguments of the command line. The error is `OutOfMemory` if memory runs out.
 fn words<R: Env + AllocGlobal>(rt: &R) -> io::Result<Vec<String>> {
     let words = std::env::args(rt)?.collect(rt.alloc())?;
     Ok(words)
 }
 
-// Puts the files of a run that ended with this status in their places, or takes them away where not all is done. A file
-// that can't be put there is a device that fails.
+// Puts the written files of a run in place if its status is 0, otherwise removes them. A file that
+// can't be put in place is a device that fails.
 fn settled<R: Files, E: Sink>(store: Folder<'_, R>, status: u8, err: &mut E) -> u8 {
     if status != DONE {
         store.abandon();
@@ -48,8 +51,9 @@ fn settled<R: Files, E: Sink>(store: Folder<'_, R>, status: u8, err: &mut E) -> 
     }
 }
 
-// What is said of words by which `shrink` would lose what it reads, or one of the files that it writes: paths that lead
-// to one file, though their texts differ. OUT may lead to FILE.
+// Returns the message for a request of `shrink` whose paths lead to the same file although their
+// texts differ, if any. Such a run would lose what it reads, or one of the files that it writes.
+// OUT may lead to FILE.
 fn clash<R: Files>(alloc: Global, rt: &R, asked: &Request<'_>) -> Option<&'static str> {
     let Request::Shrink(asked) = *asked else {
         return None;
@@ -76,7 +80,7 @@ fn clash<R: Files>(alloc: Global, rt: &R, asked: &Request<'_>) -> Option<&'stati
     None
 }
 
-// Why the words ask for nothing, where their paths clash.
+// Returns the refusal of arguments whose paths lead to the same file.
 fn clashing(alloc: Global, text: &str) -> Refusal {
     match String::from_str(alloc, text) {
         Ok(text) => Refusal::Usage(text),
@@ -84,8 +88,8 @@ fn clashing(alloc: Global, text: &str) -> Refusal {
     }
 }
 
-// Does what is asked for by these words, and answers the status. The system is asked for the keys by which names are
-// hashed only where there is a file to be read.
+// Runs the command line, and returns the exit status. The keys to hash names with are requested
+// only if a file is to be read.
 fn run<R: AllocGlobal + RandomSource + Files, O: Sink, E: Sink>(
     rt: &R,
     words: &[String],

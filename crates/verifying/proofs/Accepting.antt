@@ -2,20 +2,20 @@
 use Rattle.std.specs.Prelude.{◌≡◌, ℕ, List, length}
 use Rattle.std.proofs.Common.{refl}
 use Rattle.step_structures.specs.Trees.{File}
-use Rattle.step_equal.specs.Rows.{Row}
-use Rattle.step_equal.specs.Tables.{shares}
-use Rattle.step_equal.proofs.Rounds.{tables_decide}
+use Rattle.value_equality.specs.Rows.{Row}
+use Rattle.value_equality.specs.Tables.{shares}
+use Rattle.value_equality.proofs.Rounds.{tables_decide}
 use Rattle.express_syntax.specs.Schemas.{Schema}
 use Rattle.schema_semantics.specs.Names.{Name}
-use Rattle.conformance.specs.Said.{Said}
-use Rattle.merged_populations.specs.Headline.{IsChecked, ChecksProve}
+use Rattle.conformance.specs.SchemaMeanings.{Said}
+use Rattle.merge_theorems.specs.Headline.{IsCheckedOutput, ChecksProve}
 use Rattle.verifying.specs.declared.proof.Proof.{Proof}
-use Rattle.verifying.specs.Verifying.{IsInput, IsOutput, AreRows, BothHold, IsMerged, Proves}
+use Rattle.verifying.specs.Verifying.{IsConformingInput, IsOutput, AreRows, BothHold, IsMergedOutput, Proves}
 
-module _ (s : Schema) (chosen : List Name) (input output certificate : List ℕ) (f g : File) (reads : IsInput s input f)
+module _ (s : Schema) (chosen : List Name) (input output certificate : List ℕ) (f g : File) (reads : IsConformingInput s input f)
     (out : IsOutput s output g) (b : BothHold s chosen f certificate) (image : List Row) (are : AreRows s g image)
-    (merged : IsMerged s chosen f certificate b g image) where
-  checked : (said : Said s) → IsChecked s said chosen input output
+    (merged : IsMergedOutput s chosen f certificate b g image) where
+  checked : (said : Said s) → IsCheckedOutput s said chosen input output
   checked said =
       let j = b.held.judged in
       record {

@@ -10,24 +10,24 @@ use Rattle.express_syntax.specs.Texts as schema_texts
 use Rattle.express_syntax.specs.declared.fault.SchemaFault.{SchemaFault}
 use Rattle.express_syntax.specs.declared.fault.SchemaFault.TheVariants as schemas
 use Rattle.schema_semantics.specs.Faults.{IsResolved}
-use Rattle.schema_types.specs.Resolving.{IsNameFault}
+use Rattle.schema_types.specs.Resolution.{IsNameFault}
 use Rattle.conformance.specs.Choices.{Choice, chosen_names}
 use Rattle.conformance.specs.Populations.{Instance}
-use Rattle.step_headings.specs.Views.{AreHeadingsOf}
+use Rattle.step_headings.specs.steps.Views.{AreHeadingsOf}
 use Rattle.step_headings.specs.declared.headings.Headings.{Headings}
-use Rattle.pin_choices.specs.Chosen.{IsChoiceFault}
-use Rattle.population_typed.specs.Typed.{IsTyped}
-use Rattle.merged_populations.specs.Headline.{ChecksProve}
+use Rattle.merge_choices.specs.ChosenEntities.{IsChoiceFault}
+use Rattle.typed_populations.specs.TypedPopulations.{IsTyped}
+use Rattle.merge_theorems.specs.Headline.{ChecksProve}
 use Rattle.files.specs.Faults.{text_fault}
 use Rattle.files.specs.declared.fault.Role.TheVariants as roles
-use Rattle.faults.specs.Faults.{of_file, of_schema}
+use Rattle.reports.specs.Faults.{of_file, of_schema}
 use Rattle.verifying.specs.declared.fault.TablesFault.{TablesFault}
 use Rattle.verifying.specs.declared.fault.TablesFault.TheVariants as tables
 use Rattle.verifying.specs.declared.proof.Proof.{Proof}
 use Rattle.verifying.specs.declared.tables.Judged.{Judged}
-use Rattle.verifying.specs.Faults.{tables_fault}
-use Rattle.verifying.specs.Verifying.{Settles, IsInput, IsOutput, Verifies}
-use Rattle.verifying.specs.ComputedPassing.{AnswersTyped, IsAnswer, IsJudgement}
+use Rattle.verifying.specs.steps.Faults.{tables_fault}
+use Rattle.verifying.specs.Verifying.{Settles, IsConformingInput, IsOutput, Verifies}
+use Rattle.verifying.specs.steps.ComputedPassing.{AnswersTyped, IsAnswer, IsJudgement}
 use Rattle.verifying.proofs.Accepting.{proves}
 
 -- nothing is wrong with the output's instances one by one
@@ -65,7 +65,7 @@ module _ (schema input output certificate : List ℕ) (choice : Choice) where
       unread_input (text_faults.Fault kind place) h = (s, settles, h)
       unread_input text_faults.Memory h = tt
 
-      module _ (f : File) (reads : IsInput s input f) where
+      module _ (f : File) (reads : IsConformingInput s input f) where
         pub unread_output : (e : TextFault) → texts.IsFaultOf output e
             → Verifies schema input output certificate choice (Err (of_file (text_fault roles.Output e)))
         unread_output (text_faults.Fault kind place) h = (s, settles, (f, reads, h))

@@ -2,23 +2,23 @@
 use Rattle.std.specs.Prelude.{◌≡◌, ℕ, List, length, Ok, Err}
 use Rattle.std.proofs.Common.{refl, sym, ap, subst, ◌∙◌}
 use Rattle.step_structures.specs.Trees.{File}
-use Rattle.step_equal.specs.Images.{quotient}
-use Rattle.step_equal.specs.Rows.{Row, IsPopulation, SamePopulation}
-use Rattle.step_equal.specs.Tables.{Table, shares}
-use Rattle.step_equal.specs.TableViews.{table_of}
+use Rattle.value_equality.specs.Images.{quotient}
+use Rattle.value_equality.specs.Rows.{Row, IsPopulation, SamePopulation}
+use Rattle.value_equality.specs.Tables.{Table, shares}
+use Rattle.value_equality.specs.TableViews.{table_of}
 use Rattle.express_syntax.specs.Schemas.{Schema}
 use Rattle.schema_semantics.specs.Names.{Name}
 use Rattle.conformance.specs.PlainRows.{AreRowsOf}
 use Rattle.conformance.specs.Populations.{Instance}
-use Rattle.conformance.specs.Said.{Said, instances}
+use Rattle.conformance.specs.SchemaMeanings.{Said, instances}
 use Rattle.step_headings.specs.Headings.{SameHeadings}
-use Rattle.faults.specs.declared.refusal.Refusal.TheVariants.{NotTheImage}
+use Rattle.reports.specs.declared.refusal.Refusal.TheVariants.{NotTheImage}
 use Rattle.verifying.specs.declared.fault.TablesFault.{TablesFault}
 use Rattle.verifying.specs.declared.fault.TablesFault.TheVariants.{Refused, Memory}
 use Rattle.verifying.specs.declared.proof.Proof.{Proof}
 use Rattle.verifying.specs.declared.tables.Judged.{Judged}
-use Rattle.verifying.specs.Verifying.{AreRows, BothHold, IsMerged}
-use Rattle.verifying.specs.ComputedPassing.{IsAnswer, IsJudgement}
+use Rattle.verifying.specs.Verifying.{AreRows, BothHold, IsMergedOutput}
+use Rattle.verifying.specs.steps.ComputedPassing.{IsAnswer, IsJudgement}
 
 -- what was found of the tables is told
 pub held_back : (s : Schema) (chosen : List Name) (f g : File) (certificate : List ℕ) (e : TablesFault)

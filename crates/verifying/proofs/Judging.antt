@@ -2,31 +2,31 @@
 use Rattle.std.specs.Prelude.{◌≡◌, ◌⊎◌, ◌↔◌, ℕ, Bool, IsTrue, List, Result, Ok, Err, MatchResult}
 use Rattle.std.proofs.Common.{refl, sym, subst, inl, inr}
 use Rattle.step_structures.specs.Trees.{File}
-use Rattle.step_equal.specs.Rows.{Row}
-use Rattle.step_equal.specs.Tables.{Table, shares, IsValid}
-use Rattle.step_equal.specs.TableViews.{table_of}
+use Rattle.value_equality.specs.Rows.{Row}
+use Rattle.value_equality.specs.Tables.{Table, shares, IsValid}
+use Rattle.value_equality.specs.TableViews.{table_of}
 use Rattle.express_syntax.specs.Schemas.{Schema}
 use Rattle.schema_semantics.specs.Names.{Name, OneOf}
 use Rattle.conformance.specs.Pins.{StandsBesideItsClass}
-use Rattle.conformance.specs.Said.{Said, instances}
+use Rattle.conformance.specs.SchemaMeanings.{Said, instances}
 use Rattle.conformance.proofs.Standing.{either}
 use Rattle.certificate_text.specs.Texts.{IsCertificate}
 use Rattle.certificate_text.specs.Faults as texts
 use Rattle.certificate_text.specs.declared.fault.CertFault.{CertFault}
 use Rattle.certificate_text.specs.declared.fault.CertFault.TheVariants as certificates
-use Rattle.judged_grounds.specs.TableFaults as judged_tables
-use Rattle.judged_grounds.specs.declared.fault.TableFault.{TableFault}
-use Rattle.judged_grounds.specs.declared.fault.TableFault.TheVariants as table_faults
-use Rattle.faults.specs.declared.refusal.Refusal.TheVariants.{OldVersion, BadText, WrongNames, GroundlessSplit, Unstable, NotTheImage}
+use Rattle.certificate_checks.specs.TableFaults as judged_tables
+use Rattle.certificate_checks.specs.declared.fault.TableFault.{TableFault}
+use Rattle.certificate_checks.specs.declared.fault.TableFault.TheVariants as table_faults
+use Rattle.reports.specs.declared.refusal.Refusal.TheVariants.{OldVersion, BadText, WrongNames, GroundlessSplit, Unstable, NotTheImage}
 use Rattle.verifying.specs.declared.fault.TablesFault.{TablesFault}
 use Rattle.verifying.specs.declared.fault.TablesFault.TheVariants.{Refused, Memory}
 use Rattle.verifying.specs.declared.tables.Judged.{Judged}
-use Rattle.verifying.specs.Faults.{certificate_fault, table_fault}
+use Rattle.verifying.specs.steps.Faults.{certificate_fault, table_fault}
 use Rattle.verifying.specs.Verifying.{AreRows, AreWeak, AreGentle, AreJudged, FirstHolds, BothHold}
-use Rattle.verifying.specs.ComputedPassing.{IsTableFault, AreValid, AreFaulty, IsJudgement}
+use Rattle.verifying.specs.steps.ComputedPassing.{IsTableFault, AreValid, AreFaulty, IsJudgement}
 
 -- what is found of a table
-pub of_judge : (rows : List Row) (pinned : ℕ → Bool) (t : Table) (e : TableFault) → judged_tables.IsFaultOf rows pinned t e
+pub of_judge : (rows : List Row) (pinned : ℕ → Bool) (t : Table) (e : TableFault) → judged_tables.IsTableFaultOf rows pinned t e
     → IsTableFault rows pinned t (table_fault e)
 of_judge rows pinned t table_faults.Members h = h
 of_judge rows pinned t table_faults.Ground h = h
@@ -58,7 +58,7 @@ AddBeside s f weak t gentle = (said : Said s) (y : ℕ) → IsTrue (gentle y)
 
 module _ (s : Schema) (chosen : List Name) (f : File) (certificate : List ℕ) where
   -- the text is no certificate
-  pub unread : (e : CertFault) → texts.IsFaultOf certificate e
+  pub unread : (e : CertFault) → texts.IsCertificateFaultOf certificate e
       → IsJudgement s chosen f certificate (Err (certificate_fault e))
   unread certificates.OldVersion h = λ g. h
   unread (certificates.BadText line) h = λ g. h

@@ -3,9 +3,9 @@ use Rattle.std.specs.Prelude.{◌≡◌, ◌≢◌, ◌⊎◌, ◌↔◌, ℕ, B
 use Rattle.step_structures.specs.Trees.{File}
 use Rattle.step_structures.specs.Texts.{ReadsAs, IsFirstFault}
 use Rattle.step_structures.specs.declared.fault.FaultKind.{FaultKind}
-use Rattle.step_equal.specs.Rows.{Row, SamePopulation}
-use Rattle.step_equal.specs.Images.{quotient}
-use Rattle.step_equal.specs.Tables.{Table, shares, IsValid}
+use Rattle.value_equality.specs.Rows.{Row, SamePopulation}
+use Rattle.value_equality.specs.Images.{quotient}
+use Rattle.value_equality.specs.Tables.{Table, shares, IsValid}
 use Rattle.express_syntax.specs.Schemas.{Schema}
 use Rattle.express_syntax.specs.declared.fault.SchemaFault.{SchemaFault}
 use Rattle.schema_semantics.specs.Names.{Name}
@@ -13,18 +13,18 @@ use Rattle.conformance.specs.Choices.{Choice, chosen_names}
 use Rattle.conformance.specs.Findings.{findings}
 use Rattle.conformance.specs.PlainRows.{AreRowsOf}
 use Rattle.conformance.specs.Pins.{IsWeaklyPinned, IsGentlyPinned}
-use Rattle.conformance.specs.Said.{Said, instances}
+use Rattle.conformance.specs.SchemaMeanings.{Said, instances}
 use Rattle.step_headings.specs.Headings.{SameHeadings}
-use Rattle.check_findings.specs.Findings.{AreFindings}
+use Rattle.file_findings.specs.Findings.{AreFindings}
 use Rattle.certificate_text.specs.Texts.{IsCertificate}
 use Rattle.certificate_text.specs.Faults.{IsOld, IsBadLine}
 use Rattle.files.specs.declared.fault.Role.TheVariants as roles
-use Rattle.faults.specs.declared.refusal.Refusal.{Refusal}
-use Rattle.faults.specs.declared.refusal.Refusal.TheVariants.{OldVersion, BadText, NotTheImage}
-use Rattle.faults.specs.declared.fault.Fault.{Fault}
-use Rattle.faults.specs.declared.fault.Fault.TheVariants as faults
+use Rattle.reports.specs.declared.refusal.Refusal.{Refusal}
+use Rattle.reports.specs.declared.refusal.Refusal.TheVariants.{OldVersion, BadText, NotTheImage}
+use Rattle.reports.specs.declared.fault.Fault.{Fault}
+use Rattle.reports.specs.declared.fault.Fault.TheVariants as faults
 use Rattle.verifying.specs.declared.proof.Proof.{Proof}
-use Rattle.verifying.specs.Verifying.{Settles, IsSchemaFault, IsInput, IsOutput, Lacks}
+use Rattle.verifying.specs.Verifying.{Settles, IsSchemaFault, IsConformingInput, IsOutput, Lacks}
 
 -- The certificate of an output, by some functions that say what the schema says: each refusal, or a proof.
 module _ (s : Schema) (said : Said s) (chosen : List Name) (f g : File) (r : Result Proof Fault) where
@@ -101,7 +101,7 @@ module _ (schema input output certificate : List ℕ) (choice : Choice) (r : Res
     AtInputFound f =
         ((fs : _) × (gs : _) × (r ≡ Err (faults.Refused roles.File fs gs))
         × (unknown : ℕ) × AreFindings s f fs.items gs.items unknown × ((fs.items ≡ []) × (gs.items ≡ []) → ⊥))
-        ⊎ (IsInput s input f × AtOutput f)
+        ⊎ (IsConformingInput s input f × AtOutput f)
 
     -- the text of the input
     abbrev pub AtInput : Type 0

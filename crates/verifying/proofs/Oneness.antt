@@ -12,18 +12,18 @@ use Rattle.express_syntax.proofs.UniqueSchemas.{one_schema}
 use Rattle.express_syntax.proofs.FirstFault.{reads_no_fault, one_fault}
 use Rattle.schema_semantics.specs.Faults.{IsResolved}
 use Rattle.schema_semantics.proofs.Faults.{faults-are-one}
-use Rattle.schema_types.specs.Resolving.{IsNameFault}
+use Rattle.schema_types.specs.Resolution.{IsNameFault}
 use Rattle.conformance.specs.Choices.{Choice, chosen_names, unknown_choice}
-use Rattle.conformance.specs.Said.{Said, instances}
-use Rattle.pin_choices.specs.Chosen.{IsChoiceFault}
-use Rattle.check_findings.specs.Findings.{AreBehind, ConformsWhereNothingIsFound}
+use Rattle.conformance.specs.SchemaMeanings.{Said, instances}
+use Rattle.merge_choices.specs.ChosenEntities.{IsChoiceFault}
+use Rattle.file_findings.specs.Findings.{AreBehind, ConformsWhereNothingIsFound}
 use Rattle.files.specs.declared.fault.Role.TheVariants as roles
-use Rattle.faults.specs.declared.fault.Fault.{Fault}
-use Rattle.faults.specs.declared.fault.Fault.TheVariants as faults
-use Rattle.faults.specs.SameFaults.{SameFault}
+use Rattle.reports.specs.declared.fault.Fault.{Fault}
+use Rattle.reports.specs.declared.fault.Fault.TheVariants as faults
+use Rattle.reports.specs.SameFaults.{SameFault}
 use Rattle.verifying.specs.declared.proof.Proof.{Proof}
 use Rattle.verifying.specs.Verifying.{Settles, IsSchemaFault}
-use Rattle.verifying.specs.Laws.{told, SayTheSame, AnswersAreOne}
+use Rattle.verifying.specs.Laws.{told, ProofsSayTheSame, VerifyAnswersAreOne}
 use Rattle.verifying.proofs.Told.{told_once}
 use Rattle.verifying.proofs.Levels.{AtOutputFound, AtOutput, AtInputFound, AtInput, AtSchema}
 use Rattle.verifying.proofs.Reached.{reached}
@@ -75,7 +75,7 @@ module _ (schema input output certificate : List ℕ) (choice : Choice) (r q : R
     (law : ConformsWhereNothingIsFound) where
   module _ (s : Schema) where
     at_output_found : (f g : File) → Said s → AtOutputFound schema input output certificate choice r s f g
-        → AtOutputFound schema input output certificate choice q s f g → SayTheSame r q
+        → AtOutputFound schema input output certificate choice q s f g → ProofsSayTheSame r q
     at_output_found f g said (inl a) (inl b) =
         says r q (Err (faults.Refused roles.Output a.0 a.1)) (Err (faults.Refused roles.Output b.0 b.1)) a.2 b.2
         (refl, a.3 said ∙ sym (b.3 said), ap (map told) (a.5 ∙ sym b.5))
@@ -85,7 +85,7 @@ module _ (schema input output certificate : List ℕ) (choice : Choice) (r q : R
         at_text s said (chosen_names s choice) f g r q certificate (a.1 said) (b.1 said)
 
     at_output : (f : File) → Said s → AtOutput schema input output certificate choice r s f
-        → AtOutput schema input output certificate choice q s f → SayTheSame r q
+        → AtOutput schema input output certificate choice q s f → ProofsSayTheSame r q
     at_output f said (inl a) (inl b) =
         let one = text_faults.one_fault output a.0 b.0 a.1 b.1 a.3 b.3 in
         says r q (Err (faults.Text roles.Output a.0 a.1)) (Err (faults.Text roles.Output b.0 b.1)) a.2 b.2
@@ -98,7 +98,7 @@ module _ (schema input output certificate : List ℕ) (choice : Choice) (r q : R
         (subst (AtOutputFound schema input output certificate choice q s f) one.1 b.3)
 
     at_input_found : (f : File) → AtInputFound schema input output certificate choice r s f
-        → AtInputFound schema input output certificate choice q s f → SayTheSame r q
+        → AtInputFound schema input output certificate choice q s f → ProofsSayTheSame r q
     at_input_found f (inl a) (inl b) =
         let said : Said s = a.4.0 in
         let one = a.4.1 said in
@@ -119,7 +119,7 @@ module _ (schema input output certificate : List ℕ) (choice : Choice) (r q : R
     at_input_found f (inr a) (inr b) = at_output f a.0.some a.1 b.1
 
     at_input : AtInput schema input output certificate choice r s → AtInput schema input output certificate choice q s
-        → SayTheSame r q
+        → ProofsSayTheSame r q
     at_input (inl a) (inl b) =
         let one = text_faults.one_fault input a.0 b.0 a.1 b.1 a.3 b.3 in
         says r q (Err (faults.Text roles.File a.0 a.1)) (Err (faults.Text roles.File b.0 b.1)) a.2 b.2
@@ -131,7 +131,7 @@ module _ (schema input output certificate : List ℕ) (choice : Choice) (r q : R
         at_input_found a.1 a.3 (subst (AtInputFound schema input output certificate choice q s) one.1 b.3)
 
   at_schema : AtSchema schema input output certificate choice r → AtSchema schema input output certificate choice q
-      → SayTheSame r q
+      → ProofsSayTheSame r q
   at_schema (inl a) (inl b) =
       says r q (Err (faults.Schema a.0)) (Err (faults.Schema b.0)) a.1 b.1
       (schema_faults_once schema choice a.0 b.0 a.2 b.2)
@@ -141,7 +141,7 @@ module _ (schema input output certificate : List ℕ) (choice : Choice) (r q : R
       at_input a.0 a.2 (subst (AtInput schema input output certificate choice q)
       (one_schema schema b.0 a.0 b.1.reads a.1.reads) b.2)
 
-pub answers_are_one : ConformsWhereNothingIsFound → AnswersAreOne
+pub answers_are_one : ConformsWhereNothingIsFound → VerifyAnswersAreOne
 answers_are_one law schema input output certificate choice r q h k m n =
     at_schema schema input output certificate choice r q law
     (reached schema input output certificate choice r h m) (reached schema input output certificate choice q k n)

@@ -3,22 +3,22 @@ use Rattle.std.specs.Prelude.{◌≡◌, ◌≢◌, ◌↔◌, ℕ, IsTrue, List
 use Rattle.std.proofs.Common.{refl, sym, ap, subst, ◌∙◌, inl, inr}
 use Rattle.step_structures.specs.Trees.{File}
 use Rattle.step_structures.proofs.Once.{reads_once}
-use Rattle.step_equal.specs.Rows.{Row}
-use Rattle.step_equal.specs.Tables.{Table}
+use Rattle.value_equality.specs.Rows.{Row}
+use Rattle.value_equality.specs.Tables.{Table}
 use Rattle.express_syntax.specs.Schemas.{Schema}
 use Rattle.schema_semantics.specs.Names.{Name}
 use Rattle.conformance.specs.Choices.{Choice, chosen_names}
 use Rattle.conformance.specs.Findings.{findings}
 use Rattle.conformance.specs.Pins.{IsGentlyPinned}
-use Rattle.conformance.specs.Said.{Said, instances, FileConforms}
+use Rattle.conformance.specs.SchemaMeanings.{Said, instances, FileConforms}
 use Rattle.certificate_text.specs.Texts.{IsCertificate}
 use Rattle.files.specs.declared.fault.Role.TheVariants as roles
-use Rattle.faults.specs.declared.refusal.Refusal.{Refusal}
-use Rattle.faults.specs.declared.refusal.Refusal.TheVariants.{OldVersion, BadText, WrongNames, GroundlessSplit, Unstable, NotTheImage}
-use Rattle.faults.specs.declared.fault.Fault.{Fault}
-use Rattle.faults.specs.declared.fault.Fault.TheVariants as faults
+use Rattle.reports.specs.declared.refusal.Refusal.{Refusal}
+use Rattle.reports.specs.declared.refusal.Refusal.TheVariants.{OldVersion, BadText, WrongNames, GroundlessSplit, Unstable, NotTheImage}
+use Rattle.reports.specs.declared.fault.Fault.{Fault}
+use Rattle.reports.specs.declared.fault.Fault.TheVariants as faults
 use Rattle.verifying.specs.declared.proof.Proof.{Proof}
-use Rattle.verifying.specs.Verifying.{Settles, IsInput, IsOutput, AreRows, BothHold, IsMerged, TablesLack, IsRefused, IsAccepted, Proves, Verifies}
+use Rattle.verifying.specs.Verifying.{Settles, IsConformingInput, IsOutput, AreRows, BothHold, IsMergedOutput, TablesLack, IsRefused, IsAccepted, Proves, Verifies}
 use Rattle.verifying.proofs.Levels.{AtTables, AtText, AtSchema}
 
 module _ (s : Schema) (chosen : List Name) (f g : File) (certificate : List ℕ) (r : Result Proof Fault) where
@@ -47,7 +47,7 @@ module _ (s : Schema) (chosen : List Name) (f g : File) (certificate : List ℕ)
       )
 
   no_image : r ≡ Err (faults.Certificate NotTheImage) → (b : BothHold s chosen f certificate) (image : List Row)
-      → AreRows s g image → (IsMerged s chosen f certificate b g image → ⊥) → (said : Said s)
+      → AreRows s g image → (IsMergedOutput s chosen f certificate b g image → ⊥) → (said : Said s)
       → AtTables s said chosen f g r certificate
   no_image e b image are other said =
       let h = b.held in
@@ -134,7 +134,7 @@ module _ (s : Schema) (chosen : List Name) (input output certificate : List ℕ)
       let j = (by proves.some).checked in
       (reads_once output i.header_bytes j.header_bytes i.file j.file i.reads j.reads).1
 
-  input_is : IsInput s input f
+  input_is : IsConformingInput s input f
   input_is = record {
     header_bytes = (by proves.some).checked.input.header_bytes;
     reads = (by proves.some).checked.input.reads;

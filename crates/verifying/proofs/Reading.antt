@@ -3,9 +3,9 @@ use Rattle.std.specs.Prelude.{◌≡◌, ℕ, List, false, Result, Ok, Err}
 use Rattle.std.proofs.Common.{refl}
 use Rattle.conformance.specs.Choices.{Choice}
 use Rattle.files.specs.declared.fault.Role.{Role}
-use Rattle.faults.specs.Devices.{is_device}
-use Rattle.faults.specs.declared.fault.Fault.{Fault}
-use Rattle.faults.specs.declared.fault.Fault.TheVariants as faults
+use Rattle.reports.specs.Devices.{is_device}
+use Rattle.reports.specs.declared.fault.Fault.{Fault}
+use Rattle.reports.specs.declared.fault.Fault.TheVariants as faults
 use Rattle.verifying.specs.Verifying.{Verifies}
 use Rattle.verifying.specs.declared.proof.Proof.{Proof}
 

@@ -2,23 +2,23 @@
 use Rattle.std.specs.Prelude.{◌≡◌, ℕ, Bool, List, length, Result, Ok, Err}
 use Rattle.std.proofs.Common.{refl, sym, ap, subst, ◌∙◌, inl, inr}
 use Rattle.step_structures.specs.Trees.{File}
-use Rattle.step_equal.specs.Rows.{Row}
-use Rattle.step_equal.specs.Tables.{Table, IsValid}
+use Rattle.value_equality.specs.Rows.{Row}
+use Rattle.value_equality.specs.Tables.{Table, IsValid}
 use Rattle.express_syntax.specs.Schemas.{Schema}
 use Rattle.schema_semantics.specs.Names.{Name}
-use Rattle.conformance.specs.Said.{Said, instances}
+use Rattle.conformance.specs.SchemaMeanings.{Said, instances}
 use Rattle.conformance.proofs.RowOneness.{rows_are_one}
-use Rattle.merged_populations.proofs.Once.{one_test}
+use Rattle.merge_theorems.proofs.Once.{one_test}
 use Rattle.certificate_text.specs.Faults.{IsOld}
 use Rattle.certificate_text.specs.declared.fault.CertFault.TheVariants as certificates
 use Rattle.certificate_text.proofs.Lining.{one_certificate, no_fault, one_bad_line}
-use Rattle.faults.specs.declared.refusal.Refusal.{Refusal}
-use Rattle.faults.specs.declared.refusal.Refusal.TheVariants.{OldVersion, BadText, WrongNames, GroundlessSplit, Unstable, NotTheImage}
-use Rattle.faults.specs.declared.fault.Fault.{Fault}
-use Rattle.faults.specs.declared.fault.Fault.TheVariants as faults
+use Rattle.reports.specs.declared.refusal.Refusal.{Refusal}
+use Rattle.reports.specs.declared.refusal.Refusal.TheVariants.{OldVersion, BadText, WrongNames, GroundlessSplit, Unstable, NotTheImage}
+use Rattle.reports.specs.declared.fault.Fault.{Fault}
+use Rattle.reports.specs.declared.fault.Fault.TheVariants as faults
 use Rattle.verifying.specs.declared.proof.Proof.{Proof}
 use Rattle.verifying.specs.Verifying.{Lacks}
-use Rattle.verifying.specs.Laws.{SayTheSame}
+use Rattle.verifying.specs.Laws.{ProofsSayTheSame}
 use Rattle.verifying.proofs.Levels.{AreImage, AtImage, AtSecond, AtFirst, AtTables, AtLines, AtText}
 
 module _ (rows : List Row) (pinned : ℕ → Bool) (t : Table) where
@@ -54,15 +54,15 @@ module _ (rows : List Row) (pinned : ℕ → Bool) (t : Table) where
   valid_lacks_none v Unstable h = h.2 v.stable
 
 -- what two answers say is what they are
-pub says : (r q x y : Result Proof Fault) → r ≡ x → q ≡ y → SayTheSame x y → SayTheSame r q
-says r q x y e d h = subst (λ z. SayTheSame z q) (sym e) (subst (SayTheSame x) (sym d) h)
+pub says : (r q x y : Result Proof Fault) → r ≡ x → q ≡ y → ProofsSayTheSame x y → ProofsSayTheSame r q
+says r q x y e d h = subst (λ z. ProofsSayTheSame z q) (sym e) (subst (ProofsSayTheSame x) (sym d) h)
 
 module _ (s : Schema) (said : Said s) (chosen : List Name) (f g : File) (r q : Result Proof Fault) where
-  refused_once : (a b : Refusal) → r ≡ Err (faults.Certificate a) → q ≡ Err (faults.Certificate b) → a ≡ b → SayTheSame r q
+  refused_once : (a b : Refusal) → r ≡ Err (faults.Certificate a) → q ≡ Err (faults.Certificate b) → a ≡ b → ProofsSayTheSame r q
   refused_once a b e d same = says r q (Err (faults.Certificate a)) (Err (faults.Certificate b)) e d same
 
   at_image : (rows : List Row) (second : Table) → AtImage s said chosen f g r rows second
-      → AtImage s said chosen f g q rows second → SayTheSame r q
+      → AtImage s said chosen f g q rows second → ProofsSayTheSame r q
   at_image rows second (inl a) (inl b) = refused_once NotTheImage NotTheImage a.0 b.0 refl
   at_image rows second (inl a) (inr b) =
       let one = rows_are_one s (instances s said g) b.2 a.1 b.3 a.2 in
@@ -80,7 +80,7 @@ module _ (s : Schema) (said : Said s) (chosen : List Name) (f g : File) (r q : R
 
   at_second : (rows : List Row) (second : Table) (gentle : ℕ → Bool)
       → AtSecond s said chosen f g r rows second gentle → AtSecond s said chosen f g q rows second gentle
-      → SayTheSame r q
+      → ProofsSayTheSame r q
   at_second rows second gentle (inl a) (inl b) =
       refused_once a.0 b.0 a.1 b.1 (lacks_once rows gentle second a.0 b.0 a.2 b.2)
   at_second rows second gentle (inl a) (inr b) = absurd (valid_lacks_none rows gentle second b.0 a.0 a.2)
@@ -89,7 +89,7 @@ module _ (s : Schema) (said : Said s) (chosen : List Name) (f g : File) (r q : R
 
   at_first : (rows : List Row) (weak : ℕ → Bool) (first second : Table)
       → AtFirst s said chosen f g r rows weak first second → AtFirst s said chosen f g q rows weak first second
-      → SayTheSame r q
+      → ProofsSayTheSame r q
   at_first rows weak first second (inl a) (inl b) =
       refused_once a.0 b.0 a.1 b.1 (lacks_once rows weak first a.0 b.0 a.2 b.2)
   at_first rows weak first second (inl a) (inr b) = absurd (valid_lacks_none rows weak first b.0 a.0 a.2)
@@ -99,7 +99,7 @@ module _ (s : Schema) (said : Said s) (chosen : List Name) (f g : File) (r q : R
       (subst (AtSecond s said chosen f g q rows second) (one_test _ b.1 a.1 b.2 a.2) b.3)
 
   module _ (certificate : List ℕ) where
-    at_tables : AtTables s said chosen f g r certificate → AtTables s said chosen f g q certificate → SayTheSame r q
+    at_tables : AtTables s said chosen f g r certificate → AtTables s said chosen f g q certificate → ProofsSayTheSame r q
     at_tables a b =
         let tables = one_certificate certificate b.0 b.1 a.0 a.1 b.2 a.2 in
         let rows = rows_are_one s (instances s said f) b.3 a.3 b.4 a.4 in
@@ -110,7 +110,7 @@ module _ (s : Schema) (said : Said s) (chosen : List Name) (f g : File) (r q : R
         (subst (λ w. AtFirst s said chosen f g q a.3 w b.0 b.1) weak
         (subst (λ l. AtFirst s said chosen f g q l b.5 b.0 b.1) rows b.7))))
 
-    at_lines : AtLines s said chosen f g r certificate → AtLines s said chosen f g q certificate → SayTheSame r q
+    at_lines : AtLines s said chosen f g r certificate → AtLines s said chosen f g q certificate → ProofsSayTheSame r q
     at_lines (inl a) (inl b) =
         refused_once (BadText a.0) (BadText b.0) a.1 b.1 (ap BadText (one_bad_line certificate a.0 b.0 a.3 b.3))
     at_lines (inl a) (inr b) = absurd (a.3.unread b.0 b.1 b.2)
@@ -122,7 +122,7 @@ module _ (s : Schema) (said : Said s) (chosen : List Name) (f g : File) (r q : R
     not_old x old (inr b) =
         let clash = no_fault certificate b.0 b.1 certificates.OldVersion b.2 old in absurd (cc)
 
-    pub at_text : AtText s said chosen f g r certificate → AtText s said chosen f g q certificate → SayTheSame r q
+    pub at_text : AtText s said chosen f g r certificate → AtText s said chosen f g q certificate → ProofsSayTheSame r q
     at_text (inl a) (inl b) = refused_once OldVersion OldVersion a.0 b.0 refl
     at_text (inl a) (inr b) = absurd (not_old q a.1 b)
     at_text (inr a) (inl b) = absurd (not_old r b.1 a)

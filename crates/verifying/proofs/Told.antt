@@ -5,16 +5,16 @@ use Rattle.std.proofs.lemmas.List.{map-append}
 use Rattle.express_syntax.specs.Schemas.{Schema}
 use Rattle.schema_semantics.specs.Names.{Name}
 use Rattle.schema_semantics.specs.Parts.{dotted}
-use Rattle.schema_rules.specs.Findings.{IsFindingOf, AreFindingsOf}
-use Rattle.schema_rules.specs.declared.finding.RuleFinding.{RuleFinding}
-use Rattle.schema_rules.specs.declared.finding.RuleFindingKind.{RuleFindingKind}
-use Rattle.schema_rules.specs.declared.finding.RuleFindingKind.TheVariants.{WhereFalse, UniqueBroken, InverseBound}
+use Rattle.schema_constraints.specs.Findings.{IsFindingOf, AreFindingsOf}
+use Rattle.schema_constraints.specs.declared.finding.RuleFinding.{RuleFinding}
+use Rattle.schema_constraints.specs.declared.finding.RuleFindingKind.{RuleFindingKind}
+use Rattle.schema_constraints.specs.declared.finding.RuleFindingKind.TheVariants.{WhereFalse, UniqueBroken, InverseBound}
 use Rattle.conformance.specs.declared.finding.Finding.{Finding}
 use Rattle.conformance.specs.DomainFindings.{rule_findings}
 use Rattle.conformance.specs.Populations.{Instance}
 use Rattle.conformance.specs.RuleFindings.{Breach, unique_findings, inverse_findings}
-use Rattle.conformance.specs.Said.{Said}
-use Rattle.check_findings.specs.Findings.{AreRuleFindings, AreBehind}
+use Rattle.conformance.specs.SchemaMeanings.{Said}
+use Rattle.file_findings.specs.Findings.{AreRuleFindings, AreBehind}
 use Rattle.verifying.specs.Laws.{told}
 
 told_of : RuleFindingKind → Breach → RuleFindingKind × ℕ × Name

@@ -1,34 +1,34 @@
--- Answers to the same texts.
+-- The results of `verify` for equal texts.
 use Rattle.std.specs.Prelude.{◌≡◌, ◌≢◌, ℕ, List, map, Result, Ok, Err}
 use Rattle.schema_semantics.specs.Names.{Name}
-use Rattle.schema_parts.specs.Adding.{said}
-use Rattle.schema_rules.specs.declared.finding.RuleFinding.{RuleFinding}
-use Rattle.schema_rules.specs.declared.finding.RuleFindingKind.{RuleFindingKind}
+use Rattle.schema_unchecked_declarations.specs.UncheckedLists.{label_name}
+use Rattle.schema_constraints.specs.declared.finding.RuleFinding.{RuleFinding}
+use Rattle.schema_constraints.specs.declared.finding.RuleFindingKind.{RuleFindingKind}
 use Rattle.conformance.specs.Choices.{Choice}
-use Rattle.faults.specs.declared.fault.Fault.{Fault}
-use Rattle.faults.specs.declared.fault.Fault.TheVariants.{Schema, Text, Refused, Certificate, Memory}
-use Rattle.faults.specs.SameFaults.{SameFault}
+use Rattle.reports.specs.declared.fault.Fault.{Fault}
+use Rattle.reports.specs.declared.fault.Fault.TheVariants.{Schema, Text, Refused, Certificate, Memory}
+use Rattle.reports.specs.SameFaults.{SameFault}
 use Rattle.verifying.specs.declared.proof.Proof.{Proof}
 use Rattle.verifying.specs.Verifying.{Verifies}
 
--- what a finding of a rule says: its kind, the instance, and what the rule is called
+-- what the line of a rule finding shows: its kind, the instance and the label of the rule
 abbrev pub told : RuleFinding → RuleFindingKind × ℕ × Name
-told f = (f.kind, f.instance, said f.rule)
+told f = (f.kind, f.instance, label_name f.rule)
 
--- Two answers say the same.
-abbrev pub SayTheSame : Result Proof Fault → Result Proof Fault → Type 0
-SayTheSame (Ok p) (Ok q) = p ≡ q
-SayTheSame (Err (Schema f)) (Err (Schema g)) = SameFault f g
-SayTheSame (Err (Text role kind place)) (Err (Text other fault elsewhere)) =
+-- Two results say the same.
+abbrev pub ProofsSayTheSame : Result Proof Fault → Result Proof Fault → Type 0
+ProofsSayTheSame (Ok p) (Ok q) = p ≡ q
+ProofsSayTheSame (Err (Schema f)) (Err (Schema g)) = SameFault f g
+ProofsSayTheSame (Err (Text role kind place)) (Err (Text other fault elsewhere)) =
     (role ≡ other) × (kind ≡ fault) × (place ≡ elsewhere)
-SayTheSame (Err (Refused role fs gs)) (Err (Refused other hs ks)) =
+ProofsSayTheSame (Err (Refused role fs gs)) (Err (Refused other hs ks)) =
     (role ≡ other) × (fs.items ≡ hs.items) × (map told gs.items ≡ map told ks.items)
-SayTheSame (Err (Certificate refusal)) (Err (Certificate other)) = refusal ≡ other
-SayTheSame r q = ⊥
+ProofsSayTheSame (Err (Certificate refusal)) (Err (Certificate other)) = refusal ≡ other
+ProofsSayTheSame r q = ⊥
 
--- No four texts and choice have two answers, but that want of memory may come in place of the one that they have: not a
--- proof and a refusal, nor two proofs or two refusals that say different things.
-abbrev pub AnswersAreOne : Type 0
-AnswersAreOne = (schema input output certificate : List ℕ) (choice : Choice) (r q : Result Proof Fault)
+-- All results for four texts and a choice say the same, except out of memory. So there aren't both a proof and a
+-- refusal, nor two proofs or two refusals that say different things.
+abbrev pub VerifyAnswersAreOne : Type 0
+VerifyAnswersAreOne = (schema input output certificate : List ℕ) (choice : Choice) (r q : Result Proof Fault)
     → Verifies schema input output certificate choice r → Verifies schema input output certificate choice q
-    → r ≢ Err Memory → q ≢ Err Memory → SayTheSame r q
+    → r ≢ Err Memory → q ≢ Err Memory → ProofsSayTheSame r q

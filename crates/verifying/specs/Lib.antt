@@ -1,5 +1,4 @@
-pub mod Faults
 pub mod Verifying
 pub mod Sources
-pub mod ComputedPassing
 pub mod Laws
+pub mod steps

@@ -1,45 +1,46 @@
--- What is answered to four texts, of a schema, an input, an output and a certificate, and a choice of entities: that the
--- output is proved to be the input's least image, or the first thing for which it isn't.
+-- What `verify` returns for four texts (a schema, an input, an output and a certificate) and a choice of entity
+-- data types: that the output is proved to be a least image of the input, or the first reason why it isn't.
 use Rattle.std.specs.Prelude.{◌≡◌, ◌≢◌, ◌⊎◌, ◌↔◌, ℕ, Bool, IsTrue, List, [], length, None, Result, Ok, Err}
 use Rattle.step_structures.specs.Trees.{File}
 use Rattle.step_structures.specs.Texts.{ReadsAs, IsFirstFault}
-use Rattle.step_equal.specs.Rows.{Row, IsPopulation, SamePopulation}
-use Rattle.step_equal.specs.Images.{quotient}
-use Rattle.step_equal.specs.Tables.{Table, shares, HasMembers, IsGrounded, IsStable, IsValid}
+use Rattle.value_equality.specs.Rows.{Row, IsPopulation, SamePopulation}
+use Rattle.value_equality.specs.Images.{quotient}
+use Rattle.value_equality.specs.Tables.{Table, shares, HasMembers, IsGrounded, IsStable, IsValid}
 use Rattle.express_syntax.specs.Schemas.{Schema}
 use Rattle.express_syntax.specs.Texts as schema_texts
 use Rattle.express_syntax.specs.declared.fault.SchemaFault.{SchemaFault}
 use Rattle.express_syntax.specs.declared.fault.SchemaFault.TheVariants as schemas
 use Rattle.schema_semantics.specs.Names.{Name}
 use Rattle.schema_semantics.specs.Faults.{IsResolved}
-use Rattle.schema_types.specs.Resolving.{IsNameFault}
-use Rattle.schema_rules.specs.declared.finding.RuleFinding.{RuleFinding}
+use Rattle.schema_types.specs.Resolution.{IsNameFault}
+use Rattle.schema_constraints.specs.declared.finding.RuleFinding.{RuleFinding}
 use Rattle.conformance.specs.declared.finding.Finding.{Finding}
 use Rattle.conformance.specs.Choices.{Choice, chosen_names, unknown_choice}
 use Rattle.conformance.specs.Findings.{findings}
 use Rattle.conformance.specs.PlainRows.{AreRowsOf}
 use Rattle.conformance.specs.Pins.{IsWeaklyPinned, IsGentlyPinned}
-use Rattle.conformance.specs.Said.{Said, instances, FileConforms}
-use Rattle.pin_choices.specs.Chosen.{IsChoiceFault}
+use Rattle.conformance.specs.SchemaMeanings.{Said, instances, FileConforms}
+use Rattle.merge_choices.specs.ChosenEntities.{IsChoiceFault}
 use Rattle.step_headings.specs.Headings.{SameHeadings}
-use Rattle.check_findings.specs.Findings.{AreFindings}
+use Rattle.file_findings.specs.Findings.{AreFindings}
 use Rattle.certificate_text.specs.Texts.{IsCertificate}
 use Rattle.certificate_text.specs.Faults.{IsOld, IsBadLine}
-use Rattle.merged_populations.specs.Headline.{IsChecked, IsProved}
+use Rattle.merge_theorems.specs.Headline.{IsCheckedOutput, IsLeastImage}
 use Rattle.files.specs.declared.fault.Role.TheVariants as roles
-use Rattle.faults.specs.declared.fault.Fault.{Fault}
-use Rattle.faults.specs.declared.fault.Fault.TheVariants as faults
-use Rattle.faults.specs.declared.refusal.Refusal.{Refusal}
-use Rattle.faults.specs.declared.refusal.Refusal.TheVariants.{OldVersion, BadText, WrongNames, GroundlessSplit, Unstable, NotTheImage}
+use Rattle.reports.specs.declared.fault.Fault.{Fault}
+use Rattle.reports.specs.declared.fault.Fault.TheVariants as faults
+use Rattle.reports.specs.declared.refusal.Refusal.{Refusal}
+use Rattle.reports.specs.declared.refusal.Refusal.TheVariants.{OldVersion, BadText, WrongNames, GroundlessSplit, Unstable, NotTheImage}
 use Rattle.verifying.specs.declared.proof.Proof.{Proof}
 
--- The text reads as this schema, whose names are resolved, and each chosen name is an entity of it.
+-- The text reads as the schema `s`, whose names are resolved, and each chosen name is an entity data type of it.
 pub record Settles (text : List ℕ) (choice : Choice) (s : Schema) : Type 0 where
   pub reads : schema_texts.ReadsAs text s
   pub resolved : IsResolved s
   pub known : unknown_choice s choice ≡ None
 
--- .. or else this is the first fault of the text, or that of a name, or a chosen name is no entity
+-- The text of the schema has this first fault, or this name in it is at fault, or this chosen name isn't an entity
+-- data type of it. It is never out of memory.
 abbrev pub IsSchemaFault : List ℕ → Choice → SchemaFault → Type 0
 IsSchemaFault text choice (schemas.Text kind place) = schema_texts.IsFaultOf text (schemas.Text kind place)
 IsSchemaFault text choice (schemas.Name kind name) = (s : Schema) × schema_texts.ReadsAs text s
@@ -47,15 +48,15 @@ IsSchemaFault text choice (schemas.Name kind name) = (s : Schema) × schema_text
 IsSchemaFault text choice schemas.Memory = ⊥
 
 module _ (s : Schema) where
-  -- The text reads as this structure, which conforms to the schema, whichever functions say what the schema says; and there
-  -- are some.
-  pub record IsInput (text : List ℕ) (f : File) : Type 0 where
+  -- The text reads as this structure, which conforms to the schema under every meaning of it; and the schema has
+  -- one.
+  pub record IsConformingInput (text : List ℕ) (f : File) : Type 0 where
     pub header_bytes : List ℕ
     pub reads : ReadsAs text header_bytes f
     pub some : Said s
     pub conforms : (said : Said s) → FileConforms s said f
 
-  -- The text reads as this structure, and nothing is wrong with its instances one by one.
+  -- The text reads as this structure, whose header and instances, one by one, have no findings.
   pub record IsOutput (text : List ℕ) (g : File) : Type 0 where
     pub header_bytes : List ℕ
     pub reads : ReadsAs text header_bytes g
@@ -67,17 +68,19 @@ module _ (s : Schema) where
     pub population : IsPopulation rows
 
   module _ (chosen : List Name) (f : File) where
-    -- the test of what is pinned by the weak rules, where instances of the chosen entities may be merged
+    -- `pinned` holds exactly of the weakly pinned instances, if instances of the chosen entity data types may be
+    -- merged.
     abbrev pub AreWeak : (ℕ → Bool) → Type 0
     AreWeak pinned = (said : Said s) (y : ℕ) → IsTrue (pinned y)
         ↔ IsWeaklyPinned s said.domain said.entities said.rules chosen (instances s said f) y
 
-    -- .. and by the gentle rules, by the classes of a table at its last round
+    -- `pinned` holds exactly of the gently pinned instances, according to the classes of a table at its last round.
     abbrev pub AreGentle : Table → (ℕ → Bool) → Type 0
     AreGentle t pinned = (said : Said s) (y : ℕ) → IsTrue (pinned y)
         ↔ IsGentlyPinned s said.domain said.entities said.rules chosen (instances s said f) (shares t t.rounds) y
 
-    -- The certificate is the text of these two tables, and this is what they are judged by.
+    -- The certificate is the text of these two tables; the rows and weak pins of the input are what they are judged
+    -- by.
     pub record AreJudged (certificate : List ℕ) : Type 0 where
       pub first : Table
       pub second : Table
@@ -87,20 +90,20 @@ module _ (s : Schema) where
       pub weak : ℕ → Bool
       pub are_weak : AreWeak weak
 
-    -- .. of which the first one is valid, and gives the pins under which the second one is judged
+    -- The first table is valid, and gives the pins under which the second one is judged.
     pub record FirstHolds (certificate : List ℕ) : Type 0 where
       pub judged : AreJudged certificate
       pub valid : IsValid judged.rows judged.weak judged.first
       pub gentle : ℕ → Bool
       pub are_gentle : AreGentle judged.first gentle
 
-    -- .. and the second one is valid too
+    -- Both tables are valid.
     pub record BothHold (certificate : List ℕ) : Type 0 where
       pub held : FirstHolds certificate
       pub valid : IsValid held.judged.rows held.gentle held.judged.second
 
--- The first of these that a table lacks: it has the instances for its members, in order; each of its splits has a ground;
--- its last round is stable.
+-- The first of these conditions that a table lacks: its members are the instances, in order; each of its splits has
+-- a ground; its last round is stable.
 abbrev pub Lacks : List Row → (ℕ → Bool) → Table → Refusal → Type 0
 Lacks rows pinned t WrongNames = HasMembers rows t → ⊥
 Lacks rows pinned t GroundlessSplit = HasMembers rows t × (IsGrounded rows pinned (shares t) t.rounds → ⊥)
@@ -109,42 +112,42 @@ Lacks rows pinned t Unstable =
 Lacks rows pinned t refusal = ⊥
 
 module _ (s : Schema) (chosen : List Name) (f : File) where
-  -- the first table lacks this, or else the second one does
+  -- the first table lacks this condition, or the first table holds and the second one lacks it
   abbrev pub TablesLack : List ℕ → Refusal → Type 0
   TablesLack certificate refusal =
       ((j : AreJudged s chosen f certificate) × Lacks j.rows j.weak j.first refusal)
       ⊎ ((h : FirstHolds s chosen f certificate) × Lacks h.judged.rows h.gentle h.judged.second refusal)
 
-  -- The rows of the output are those of the quotient by the last round of the second table, in any order, and its
-  -- sections have the headings of the input's.
-  abbrev pub IsMerged : (certificate : List ℕ) → BothHold s chosen f certificate → File → List Row → Type 0
-  IsMerged certificate b g rows =
+  -- The rows of the output are those of the quotient by the last round of the second table, in any order. The
+  -- output's sections have the headings of the input's.
+  abbrev pub IsMergedOutput : (certificate : List ℕ) → BothHold s chosen f certificate → File → List Row → Type 0
+  IsMergedOutput certificate b g rows =
       SamePopulation rows (quotient b.held.judged.rows (shares b.held.judged.second b.held.judged.second.rounds))
       × SameHeadings f g
 
-  -- For a structure g of the output this is the first thing for which the certificate proves nothing.
+  -- For an output that reads as `g`, this is the first reason why the certificate doesn't prove it.
   abbrev pub IsRefused : File → List ℕ → Refusal → Type 0
   IsRefused g certificate OldVersion = IsOld certificate
   IsRefused g certificate (BadText line) = (IsOld certificate → ⊥) × IsBadLine certificate line
   IsRefused g certificate NotTheImage =
       (b : BothHold s chosen f certificate) × (rows : List Row) × AreRows s g rows
-      × (IsMerged certificate b g rows → ⊥)
+      × (IsMergedOutput certificate b g rows → ⊥)
   IsRefused g certificate refusal = TablesLack certificate refusal
 
--- By these tables the output is proved to conform, to be an image of the input, and the least one: the rows of input and
--- output are as many as is said, and the last round of the second table is the one that is said.
+-- By these tables the output is proved to conform, to be an image of the input, and to be a least one. The proof
+-- states the numbers of rows of input and output, and the last round of the second table.
 pub record IsAccepted (s : Schema) (said : Said s) (chosen : List Name) (input output : List ℕ) (first second : Table)
     (p : Proof) : Type 0 where
-  pub checked : IsChecked s said chosen input output
+  pub checked : IsCheckedOutput s said chosen input output
   pub first_is : checked.first ≡ first
   pub second_is : checked.second ≡ second
   pub headings : SameHeadings checked.input.file checked.file
-  pub proved : IsProved s said chosen input output checked
+  pub proved : IsLeastImage s said chosen input output checked
   pub instances : p.instances ≡ length checked.input.rows
   pub kept : p.kept ≡ length checked.rows
   pub rounds : p.rounds ≡ second.rounds
 
--- The certificate is accepted, whichever functions say what the schema says; and there are some.
+-- The certificate is accepted under every meaning of the schema, and the schema has one.
 pub record Proves (s : Schema) (chosen : List Name) (input output certificate : List ℕ) (p : Proof) : Type 0 where
   pub first : Table
   pub second : Table
@@ -153,19 +156,20 @@ pub record Proves (s : Schema) (chosen : List Name) (input output certificate : 
   pub accepted : (said : Said s) → IsAccepted s said chosen input output first second p
 
 module _ (schema input output certificate : List ℕ) (choice : Choice) where
-  -- So far nothing is refused: of the schema ..
+  -- The schema and the choice have no fault, and `P` holds of the schema.
   abbrev pub UpToChoice : (Schema → Type 0) → Type 0
   UpToChoice P = (s : Schema) × Settles schema choice s × P s
 
-  -- .. of the input ..
+  -- The input has no fault and no findings either, and `P` holds.
   abbrev pub UpToInput : (Schema → File → Type 0) → Type 0
-  UpToInput P = UpToChoice (λ s. (f : File) × IsInput s input f × P s f)
+  UpToInput P = UpToChoice (λ s. (f : File) × IsConformingInput s input f × P s f)
 
-  -- .. and of the output.
+  -- The output has no fault either, its header and instances, one by one, have no findings, and `P` holds.
   abbrev pub UpToOutput : (Schema → File → File → Type 0) → Type 0
   UpToOutput P = UpToInput (λ s f. (g : File) × IsOutput s output g × P s f g)
 
-  -- The findings of the input, of rules too, or of the output's instances one by one. There are some.
+  -- The findings of the input, rules included, or of the output's header and instances, one by one. There is at
+  -- least one.
   abbrev pub AreOfInput : List Finding → List RuleFinding → Type 0
   AreOfInput fs gs =
       UpToChoice (λ s. (header_bytes : List ℕ) × (f : File) × ReadsAs input header_bytes f
@@ -176,8 +180,8 @@ module _ (schema input output certificate : List ℕ) (choice : Choice) where
       UpToInput (λ s f. (header_bytes : List ℕ) × (g : File) × ReadsAs output header_bytes g
       × ((said : Said s) → fs ≡ findings s said.domain said.entities g) × (fs ≢ []) × (gs ≡ []))
 
-  -- What is answered. Each refusal comes where nothing before it is refused; want of memory may come in place of any. No
-  -- other fault comes.
+  -- What `verify` returns. Each refusal requires that nothing before it is refused. Out of memory may be returned
+  -- at any time, and no other fault is returned.
   abbrev pub Verifies : Result Proof Fault → Type 0
   Verifies (Ok p) = UpToChoice (λ s. Proves s (chosen_names s choice) input output certificate p)
   Verifies (Err (faults.Schema fault)) = IsSchemaFault schema choice fault

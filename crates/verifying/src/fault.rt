@@ -2,15 +2,15 @@
 
 ghost use Rattle.std.specs.Prelude.{◌≡◌};
 ghost use Rattle.verifying.specs.declared.fault.TablesFault.TheVariants as tables;
-ghost use Rattle.verifying.specs.Faults.{certificate_fault, table_fault, tables_fault};
+ghost use Rattle.verifying.specs.steps.Faults.{certificate_fault, table_fault, tables_fault};
 
+use certificate_checks::fault::TableFault;
 use certificate_text::fault::CertFault;
-use faults::fault::Fault;
-use faults::refusal::Refusal;
-use judged_grounds::fault::TableFault;
+use reports::fault::Fault;
+use reports::refusal::Refusal;
 use std::alloc::AllocError;
 
-/// Why the tables of a certificate aren't accepted: what is refused of it, or want of memory.
+/// Why the tables of a certificate aren't accepted: a refusal, or out of memory.
 #[derive(Clone, Copy, Debug, PartialEq, Eq)]
 pub(crate) enum TablesFault {
     Refused(Refusal),

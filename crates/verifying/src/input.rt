@@ -1,11 +1,11 @@
-//! An input, of which nothing may be found.
+//! The input, which must have no findings.
 
 ghost use Rattle.std.specs.Prelude.{IfOk};
 ghost use Rattle.schema_names.specs.Schemas.{the_schema};
-ghost use Rattle.express_types.specs.Sound.{IsSound};
+ghost use Rattle.schema_resolution.specs.SoundGraphs.{IsSound};
 ghost use Rattle.step_exchange.specs.Exchanges.{structure};
-ghost use Rattle.population_layouts.specs.Tables.{AreTables};
-ghost use Rattle.verifying.specs.ComputedPassing.{
+ghost use Rattle.population_forms.specs.steps.Tables.{AreTables};
+ghost use Rattle.verifying.specs.steps.ComputedPassing.{
   AnswersRead,
   AnswersSettled,
   Finds,
@@ -16,15 +16,15 @@ use crate::fault::TablesFault;
 use crate::output::verify_output;
 use crate::proof::Proof;
 use crate::tables::{Judged, judge_certificate};
-use check_findings::findings::Found;
-use check_findings::laws::conforms_where_nothing_is_found;
-use express_rules::report::RuleReport;
-use express_types::graph::TypeGraph;
-use faults::fault::{Fault, of_file};
+use file_findings::checked_file::{Checked, conforming};
+use file_findings::findings::Found;
+use file_findings::laws::conforms_where_nothing_is_found;
 use files::fault::{FileFault, Role};
-use pin_choices::choice::Chosen;
-use population_layouts::tables::SchemaTables;
-use ruled_populations::checked::{Checked, conforming};
+use merge_choices::choice::Chosen;
+use population_forms::tables::SchemaTables;
+use reports::fault::{Fault, of_file};
+use rule_outcomes::report::RuleReport;
+use schema_resolution::resolved_schema::ResolvedSchema;
 use std::alloc::Global;
 use std::hash::RandomState;
 use step_exchange::exchange::read_exchange;
@@ -38,12 +38,12 @@ pub(crate) struct Claim<'o> {
     pub certificate: Vec<u8>,
 }
 
-/// What is found of a certificate's tables, where the input reads as this structure. All else that
-/// this needed is let go.
+/// Checks an input that reads as this structure, and judges the tables of the certificate by it.
+/// Everything else that this needed is freed.
 fn judge_input<'r, 't, 's: 'a, 'a: 'r>(
     alloc: Global,
     keys: RandomState,
-    graph: &'r TypeGraph<'s, 't>,
+    graph: &'r ResolvedSchema<'s, 't>,
     tables: &'r SchemaTables,
     chosen: &Chosen,
     exchange: &'r Exchange<'a>,
@@ -76,12 +76,12 @@ fn judge_input<'r, 't, 's: 'a, 'a: 'r>(
     }
 }
 
-/// What is proved of an output, where the input reads as this structure. All of it but its headings
-/// is let go before the output is read.
+/// Verifies an output if the input reads as this structure. The structure, except its headings, is
+/// freed before the output is read.
 fn verify_read<'r, 't, 's: 'a, 'a>(
     alloc: Global,
     keys: RandomState,
-    graph: &'r TypeGraph<'s, 't>,
+    graph: &'r ResolvedSchema<'s, 't>,
     tables: &'r SchemaTables,
     chosen: &Chosen,
     exchange: Exchange<'a>,
@@ -118,11 +118,12 @@ fn verify_read<'r, 't, 's: 'a, 'a>(
     )
 }
 
-/// What is proved of an output by its certificate, where the schema is read and the choice settled.
+/// Verifies an output by its certificate, according to a resolved schema and its chosen entity data
+/// types.
 pub(crate) fn verify_input<'s>(
     alloc: Global,
     keys: RandomState,
-    graph: &TypeGraph<'s, '_>,
+    graph: &ResolvedSchema<'s, '_>,
     chosen: &Chosen,
     input: &[u8],
     claim: Claim<'_>,

@@ -1,13 +1,13 @@
-//! A law of answers.
+//! The law of what `verify` returns.
 
-ghost use Rattle.verifying.specs.Laws.{AnswersAreOne};
+ghost use Rattle.verifying.specs.Laws.{VerifyAnswersAreOne};
 
-use check_findings::laws::conforms_where_nothing_is_found;
+use file_findings::laws::conforms_where_nothing_is_found;
 
-/// No four texts and choice have both a proof and a refusal, nor two different ones of either; but
-/// want of memory may come in place of any.
+/// Any two results of `verify` for the same four texts and choice say the same, unless memory runs
+/// out in one of them. So there aren't both a proof and a refusal.
 pub fn answers_are_one()
-    ensures { AnswersAreOne }
+    ensures { VerifyAnswersAreOne }
 {
     conforms_where_nothing_is_found();
 }

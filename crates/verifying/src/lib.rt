@@ -1,5 +1,5 @@
-//! Whether a certificate proves that an output is a least image of an input, whoever made the two:
-//! from four texts and a choice of entities.
+//! Whether a certificate proves that an output is a least image of an input, whatever program wrote the two:
+//! from four texts and a choice of entity data types.
 #![tactic(auto)]
 
 mod fault;

@@ -1,17 +1,17 @@
-//! An output, compared with what comes of an input.
+//! Comparing an output with the merged input.
 
 ghost use Rattle.std.specs.Prelude.{◌↔◌, IfOk, IsTrue, Ok};
 ghost use Rattle.schema_names.specs.Schemas.{the_schema};
-ghost use Rattle.schema_types.specs.Made.{IsMade};
+ghost use Rattle.schema_types.specs.TypeTables.{IsMade};
 ghost use Rattle.step_exchange.specs.Exchanges.{structure};
-ghost use Rattle.step_equal.specs.Images.{quotient};
-ghost use Rattle.step_equal.specs.Rows.{SamePopulation};
-ghost use Rattle.step_equal.specs.Tables.{shares};
-ghost use Rattle.step_equal.specs.TableViews.{table_of};
-ghost use Rattle.step_headings.specs.Views.{AreHeadingsOf};
-ghost use Rattle.population_layouts.specs.Tables.{AreTables};
-ghost use Rattle.population_typed.specs.Seen.{population_seen};
-ghost use Rattle.verifying.specs.ComputedPassing.{
+ghost use Rattle.value_equality.specs.Images.{quotient};
+ghost use Rattle.value_equality.specs.Rows.{SamePopulation};
+ghost use Rattle.value_equality.specs.Tables.{shares};
+ghost use Rattle.value_equality.specs.TableViews.{table_of};
+ghost use Rattle.step_headings.specs.steps.Views.{AreHeadingsOf};
+ghost use Rattle.population_forms.specs.steps.Tables.{AreTables};
+ghost use Rattle.typed_populations.specs.PopulationViews.{population_seen};
+ghost use Rattle.verifying.specs.steps.ComputedPassing.{
   AnswersClean,
   AnswersOutput,
   AnswersTyped,
@@ -21,25 +21,25 @@ ghost use Rattle.verifying.specs.ComputedPassing.{
 use crate::fault::TablesFault;
 use crate::proof::Proof;
 use crate::tables::Judged;
-use faults::fault::{Fault, of_file};
-use faults::refusal::Refusal;
+use certificate_checks::quotient::is_merged;
+use file_findings::rows::plain_rows;
 use files::fault::{FileFault, Role};
-use merged_outputs::merged::is_merged;
-use merged_populations::laws::checks_prove;
-use population_layouts::tables::SchemaTables;
-use population_typed::population::Population;
-use ruled_populations::rows::plain_rows;
+use merge_theorems::merged_file_laws::checks_prove;
+use population_forms::tables::SchemaTables;
+use population_reader::populate::{Verdict, populate_by};
+use reports::fault::{Fault, of_file};
+use reports::refusal::Refusal;
 use schema_types::types::ResolvedTypes;
 use std::alloc::{AllocError, Global};
 use std::hash::RandomState;
-use step_equal::plain::Plain;
 use step_exchange::exchange::read_exchange;
 use step_exchange::structure::Exchange;
 use step_headings::headings::Headings;
-use step_population::populate::{Verdict, populate_by};
+use typed_populations::population::Population;
+use value_equality::plain::Plain;
 
-/// Whether an output with these rows is what comes of the input where the classes of its table are
-/// merged, with these headings.
+/// Whether an output with these rows is the input with the classes of its table merged, under these
+/// headings.
 fn is_image<'a, 'r, 'b, 'q>(
     alloc: Global,
     headings: &Headings<'a>,
@@ -58,7 +58,8 @@ fn is_image<'a, 'r, 'b, 'q>(
     Ok(headings.are_those_of(output))
 }
 
-/// What is proved of an output with this population, where the tables of its certificate hold.
+/// Compares an output that has this population with the merged input. The tables of the certificate
+/// hold.
 fn compare<'s: 'a, 't, 'r, 'a, 'b, 'q>(
     alloc: Global,
     population: Population<'s, 't, 'r, 'a>,
@@ -84,8 +85,8 @@ fn compare<'s: 'a, 't, 'r, 'a, 'b, 'q>(
     })
 }
 
-/// What is proved of an output with this population, or else what was found of the tables of its
-/// certificate.
+/// Returns the proof of an output that has this population, or else what is wrong with the tables
+/// of its certificate.
 fn answer<'s: 'a, 't, 'r, 'a, 'b, 'q>(
     alloc: Global,
     population: Population<'s, 't, 'r, 'a>,
@@ -103,7 +104,7 @@ fn answer<'s: 'a, 't, 'r, 'a, 'b, 'q>(
     }
 }
 
-/// What is proved of an output that reads as this structure.
+/// Verifies an output that reads as this structure.
 fn verify_image<'s: 'a, 't, 'r, 'a, 'b, 'q>(
     alloc: Global,
     keys: RandomState,
@@ -134,8 +135,8 @@ fn verify_image<'s: 'a, 't, 'r, 'a, 'b, 'q>(
     }
 }
 
-/// What is proved of an output, where nothing is found of the input, whose sections have these
-/// headings, and this is found of the certificate's tables.
+/// Verifies an output. The input has no findings, its sections have these headings, and the tables
+/// of the certificate are judged so.
 pub(crate) fn verify_output<'s>(
     alloc: Global,
     keys: RandomState,

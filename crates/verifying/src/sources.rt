@@ -1,14 +1,14 @@
-//! Verifying an output by the text of a schema and three sources.
+//! Verifying an output, from the text of a schema and three sources.
 
 ghost use Rattle.std.specs.Prelude.{◌≡◌, false, MatchResult};
-ghost use Rattle.pin_choices.specs.Chosen.{choice_of};
+ghost use Rattle.merge_choices.specs.ChosenEntities.{choice_of};
 ghost use Rattle.files.specs.Stores.{reader_seen};
 ghost use Rattle.files.specs.declared.fault.Role.TheVariants as roles;
-ghost use Rattle.faults.specs.Devices.{is_device};
+ghost use Rattle.reports.specs.Devices.{is_device};
 ghost use Rattle.verifying.specs.Sources.{
-  AreRead,
+  TextsAreRead,
   FirstUnread,
-  IsRead,
+  IsWholeText,
   IsUnread,
   VerifiesAll,
   given,
@@ -18,14 +18,14 @@ ghost use Rattle.verifying.specs.Verifying.{Verifies};
 use crate::proof::Proof;
 use crate::verify::verify;
 use devices::device::Source;
-use faults::fault::{Fault, too_large, unread};
 use files::fault::{LIMIT, Role};
 use files::read::read_whole;
-use pin_choices::choice::Choice;
+use merge_choices::choice::Choice;
+use reports::fault::{Fault, too_large, unread};
 use std::alloc::Global;
 use std::hash::RandomState;
 
-/// The texts of three sources.
+/// The texts of the three sources.
 #[derive(Drop)]
 struct Texts {
     file: Vec<u8>,
@@ -33,11 +33,15 @@ struct Texts {
     certificate: Vec<u8>,
 }
 
-/// All bytes of a file of this role. The fault is `Device` where its source fails, that of a text with
-/// too many bytes where it has more than 2^40 (`Schema` or `Text`), and `Memory` where memory runs out.
+/// Reads `source`, a file in `role`, to its end and returns all its bytes.
+///
+/// # Errors
+/// - `Device` if the source fails.
+/// - `Schema` or `Text` (by role) with `TooLarge` if more than 2^40 bytes come.
+/// - `Memory` if memory runs out.
 pub fn read<'s, S: Source>(alloc: Global, role: Role, source: &mut S) -> Result<Vec<u8>, Fault<'s>>
     ensures read { MatchResult result
-        (λ bytes. IsRead (reader_seen S.to_come S.fails source.old) bytes.items)
+        (λ bytes. IsWholeText (reader_seen S.to_come S.fails source.old) bytes.items)
         (IsUnread role (reader_seen S.to_come S.fails source.old)) }
     ensures failed { S.has_failed source.old ≡ false
         → S.has_failed source.new ≡ is_device role result }
@@ -48,7 +52,7 @@ pub fn read<'s, S: Source>(alloc: Global, role: Role, source: &mut S) -> Result<
     }
 }
 
-/// The texts of three files, where the schema has this one.
+/// Reads three files to their ends, if the schema isn't too large.
 fn read_all<'s, F: Source, W: Source, C: Source>(
     alloc: Global,
     schema: &[u8],
@@ -57,11 +61,12 @@ fn read_all<'s, F: Source, W: Source, C: Source>(
     certificate: &mut C,
 ) -> Result<Texts, Fault<'s>>
     ensures read { MatchResult result
-        (λ texts. AreRead (given schema.now) (reader_seen F.to_come F.fails file.old)
+        (λ texts. TextsAreRead (given schema.now) (reader_seen F.to_come F.fails file.old)
         (reader_seen W.to_come W.fails output.old) (reader_seen C.to_come C.fails certificate.old)
         schema.now texts.file.items texts.smaller.items texts.certificate.items)
         (FirstUnread (given schema.now) (reader_seen F.to_come F.fails file.old)
-        (reader_seen W.to_come W.fails output.old) (reader_seen C.to_come C.fails certificate.old)) }
+        (reader_seen W.to_come W.fails output.old)
+        (reader_seen C.to_come C.fails certificate.old)) }
     ensures no_schema_fault { is_device roles.Schema result ≡ false }
     ensures file_failed { F.has_failed file.old ≡ false
         → F.has_failed file.new ≡ is_device roles.File result }
@@ -83,7 +88,7 @@ fn read_all<'s, F: Source, W: Source, C: Source>(
     })
 }
 
-/// What is answered to these texts.
+/// Verifies an output, from its texts.
 fn verify_texts<'s>(
     alloc: Global,
     keys: RandomState,
@@ -102,13 +107,19 @@ fn verify_texts<'s>(
     verify(alloc, keys, schema, &file, &smaller, choice, certificate)
 }
 
-/// What a certificate proves of an output, as [`verify`] does, by the text of a schema and those of
-/// three sources, which are read to their ends: first the input, then the output and the certificate.
+/// Tests whether a certificate proves an output, as [`verify`] does, from the text of a schema and
+/// three sources. The sources are read to their ends in this order: input, output, certificate.
 ///
-/// The fault is that of a schema with more than 2^40 bytes (`Schema`), or of the first source that
-/// isn't read: `Device` where its device fails, and where it has more than 2^40 bytes the fault of a
-/// text with too many (`Text`). Else it is that of `verify`. Want of memory may come in place of any,
-/// as `Memory`. Names, and keys of rules, are hashed by these keys.
+/// Names and keys of rules are hashed with `keys`.
+///
+/// # Errors
+/// The first of these:
+///
+/// - `Schema` if the schema is larger than 2^40 bytes.
+/// - For each source in turn: `Device` if it fails, `Text` if it has more than 2^40 bytes.
+/// - What [`verify`] returns for the texts.
+///
+/// `Memory` if memory runs out, at any time.
 pub fn verify_files<'s, F: Source, W: Source, C: Source>(
     alloc: Global,
     keys: RandomState,
@@ -118,11 +129,12 @@ pub fn verify_files<'s, F: Source, W: Source, C: Source>(
     output: &mut W,
     certificate: &mut C,
 ) -> Result<Proof, Fault<'s>>
-    // What is answered is what the four texts and the choice say.
+    // The result is the one that the four texts and the choice have.
     ensures verifies { VerifiesAll (choice_of choice.now) (given schema.now)
         (reader_seen F.to_come F.fails file.old)
-        (reader_seen W.to_come W.fails output.old) (reader_seen C.to_come C.fails certificate.old) result }
-    // The fault is a device's exactly where that one failed.
+        (reader_seen W.to_come W.fails output.old)
+        (reader_seen C.to_come C.fails certificate.old) result }
+    // The fault is that of a device exactly if the device failed.
     ensures no_schema_fault { is_device roles.Schema result ≡ false }
     ensures file_failed { F.has_failed file.old ≡ false
         → F.has_failed file.new ≡ is_device roles.File result }

@@ -6,12 +6,12 @@ ghost use Rattle.certificate_text.specs.Texts.{IsCertificate};
 ghost use Rattle.express_syntax.specs.Schemas.{Schema};
 ghost use Rattle.schema_semantics.specs.Names.{Name};
 ghost use Rattle.step_structures.specs.Trees.{File};
-ghost use Rattle.step_equal.specs.Standard.{IsWellFormed};
-ghost use Rattle.step_equal.specs.Tables.{IsValid};
-ghost use Rattle.step_equal.specs.TableViews.{table_of};
-ghost use Rattle.row_shapes.specs.Signatures.{AreSignatures, none_pinned};
-ghost use Rattle.step_pins.specs.Pinned.{is_pinned};
-ghost use Rattle.verifying.specs.ComputedPassing.{
+ghost use Rattle.value_equality.specs.Standard.{IsWellFormed};
+ghost use Rattle.value_equality.specs.Tables.{IsValid};
+ghost use Rattle.value_equality.specs.TableViews.{table_of};
+ghost use Rattle.row_signatures.specs.steps.Signatures.{AreSignatures, none_pinned};
+ghost use Rattle.population_pins.specs.PopulationPins.{is_pinned};
+ghost use Rattle.verifying.specs.steps.ComputedPassing.{
   AreFaulty,
   AreKnown,
   AreValid,
@@ -21,25 +21,25 @@ ghost use Rattle.verifying.specs.ComputedPassing.{
 };
 
 use crate::fault::TablesFault;
+use certificate_checks::judge::judge_by;
 use certificate_text::read::read_certificate;
-use judged_grounds::judge::judge_by;
-use row_shapes::signatures::{Signatures, all_signatures};
+use population_pins::pin_names::Pins;
+use population_pins::weak_pins::WeakPins;
+use row_signatures::signatures::{Signatures, all_signatures};
 use std::alloc::Global;
 use std::hash::RandomState;
-use step_equal::laws::equal_tables_are_the_same;
-use step_equal::plain::Plain;
-use step_equal::table::Table;
-use step_pins::pins::Pins;
-use step_pins::weak_pins::WeakPins;
+use value_equality::laws::equal_tables_are_the_same;
+use value_equality::plain::Plain;
+use value_equality::table::Table;
 
-/// The rows of an input, and the table by whose classes they are merged.
+/// The rows of an input, and the table whose classes are merged.
 #[derive(Drop)]
 pub(crate) struct Judged<'a> {
     pub rows: Plain<'a>,
     pub table: Table,
 }
 
-/// Whether a table is valid under these pins.
+/// Tests whether a table is valid under these pins.
 fn judge_under(
     alloc: Global,
     keys: RandomState,
@@ -58,8 +58,8 @@ fn judge_under(
     Ok(())
 }
 
-/// Whether one table is another, and the same is pinned: what is found of the one is found of the
-/// other.
+/// Whether both tables and both lists of pins are equal. The outcome for the one table is that for
+/// the other then.
 fn is_judged(weak: &Pins, gentle: &Pins, first: &Table, second: &Table) -> bool
     ensures pins { OnTrue result (is_pinned gentle.now ≡ is_pinned weak.now) }
     ensures tables { OnTrue result (table_of second.now ≡ table_of first.now) }
@@ -68,7 +68,8 @@ fn is_judged(weak: &Pins, gentle: &Pins, first: &Table, second: &Table) -> bool
     weak.are_same(gentle) && first == second
 }
 
-/// Whether the first table is valid under the weak pins, and the second one under the gentle pins.
+/// Tests whether the first table is valid under the weak pins, and the second one under the gentle
+/// pins. Equal tables under equal pins are tested once.
 fn judge_tables(
     alloc: Global,
     keys: RandomState,
@@ -96,8 +97,8 @@ fn judge_tables(
     judge_under(alloc, keys, rows, gentle, &signatures, second)
 }
 
-/// What is merged by these tables of a certificate, where both are valid, the second one under the
-/// gentle pins that the first one gives.
+/// Judges the two tables of a certificate: both have to be valid, the second one under the gentle
+/// pins that the first one gives.
 fn judge_pair<'a>(
     alloc: Global,
     keys: RandomState,
@@ -121,7 +122,7 @@ fn judge_pair<'a>(
     })
 }
 
-/// What is merged of an input with these rows and weak pins by a certificate, where its tables hold.
+/// Reads the tables of a certificate and judges them by an input with these rows and weak pins.
 pub(crate) fn judge_certificate<'a>(
     alloc: Global,
     keys: RandomState,

@@ -1,33 +1,47 @@
 //! Verifying an output, from four texts and a choice.
 
-ghost use Rattle.pin_choices.specs.Chosen.{choice_of};
+ghost use Rattle.merge_choices.specs.ChosenEntities.{choice_of};
 ghost use Rattle.verifying.specs.Verifying.{Verifies};
 
 use crate::input::{Claim, verify_input};
 use crate::proof::Proof;
-use express_text::read_schema;
-use express_types::resolving::resolve;
-use faults::fault::{Fault, of_schema};
-use pin_choices::choice::Choice;
+use express_reader::read_schema;
+use merge_choices::choice::Choice;
+use reports::fault::{Fault, of_schema};
+use schema_resolution::resolution::resolve;
 use std::alloc::Global;
 use std::hash::RandomState;
 
-/// What a certificate proves of an output, by the text of a schema and a choice of its entities: that
-/// the output conforms, and is a least image of the input, of which instances of the chosen entities
-/// may be merged. Who made output and certificate plays no part, nor does whether the choice is strict.
+/// Tests whether `certificate` proves that `output` conforms to the schema and is a least image of
+/// `input`. Instances of the chosen entity data types may be merged. Returns the numbers of the
+/// proof. It doesn't matter what program wrote output and certificate, nor whether the choice is
+/// strict.
 ///
-/// The fault is the first of these that is due: that of the schema's text, then of its names, then the
-/// first chosen name that is no entity (`Schema`); the fault of the input's text (`Text`); what is
-/// found of the input, of rules too (`Refused`); the fault of the output's text (`Text`); what is
-/// wrong with the output's instances one by one (`Refused`); and as `Certificate`, that the certificate
-/// is of version 1 (`OldVersion`) or no certificate (`BadText`); of its first table under the weak pins
-/// of the input, and then of its second one under the gentle pins that the first one gives, that its
-/// members aren't the input's instances (`WrongNames`), that a split has no ground (`GroundlessSplit`),
-/// or that the last round isn't stable (`Unstable`); and that the output isn't what comes of the input
-/// by the second table (`NotTheImage`). Want of memory may come in place of any, as `Memory`. The limits of 2^40
-/// bytes are the caller's to test. The certificate is let go of once its tables are read, and all of the
-/// input's structure but the headings of its sections before the output is. Names, and keys of rules, are
-/// hashed by these keys.
+/// The function doesn't test the limits of 2^40 bytes; `verify_files` does. To save memory, it
+/// frees the certificate once its tables are read. Before the output is read, it frees all of the
+/// input's structure except the headings of its sections. Names and keys of rules are hashed with
+/// `keys`.
+///
+/// # Errors
+/// The first of these:
+///
+/// - `Schema` if the text of the schema has a fault.
+/// - `Schema` if a name in the schema is at fault.
+/// - `Schema` with `UnknownName` if a chosen name isn't an entity data type of the schema.
+/// - `Text` of the input if its text has a fault.
+/// - `Refused` of the input if it breaks the schema, its rules included.
+/// - `Text` of the output if its text has a fault.
+/// - `Refused` of the output if its header or its instances, one by one, have findings.
+/// - `Certificate(OldVersion)` if the certificate is of version 1.
+/// - `Certificate(BadText)` if the text isn't a certificate.
+/// - `Certificate`, for the first table under the weak pins of the input, then for the second table
+///   under the gentle pins that the first one gives: `WrongNames` if the members of the table
+///   aren't the input's instances, `GroundlessSplit` if a split has no ground, `Unstable` if the
+///   last round isn't stable.
+/// - `Certificate(NotTheImage)` if the output isn't the input with the classes of the second table
+///   merged, or the headings of its sections differ.
+///
+/// `Memory` if memory runs out, at any time.
 pub fn verify<'s>(
     alloc: Global,
     keys: RandomState,
@@ -37,7 +51,8 @@ pub fn verify<'s>(
     choice: &Choice,
     certificate: Vec<u8>,
 ) -> Result<Proof, Fault<'s>>
-    ensures { Verifies schema.now input.now output.now certificate.items (choice_of choice.now) result }
+    ensures { Verifies schema.now input.now output.now certificate.items
+        (choice_of choice.now) result }
 {
     let claim = Claim {
         output,

@@ -1,4 +1,4 @@
-//! What `check` says of a file, or why it isn't checked.
+//! The report of `check` on a file, or why the file isn't checked.
 
 use super::{FILE, Shelf, add_words, run_in};
 use std::alloc::Global;
@@ -20,8 +20,8 @@ const RULED: &str = "SCHEMA geo;\n\
     WHERE wr1 : nothing > 0; END_ENTITY;\n\
     END_SCHEMA;\n";
 
-// The paths of the schema and of the file, what `S` holds and the data section of `F`; the status,
-// and what stands on the output and on the error output.
+// The paths of the schema and of the file, the content of `S`, the data section of `F`, the status,
+// and what is printed on the output and on the error output.
 type Row = (
     &'static str,
     &'static str,
@@ -118,7 +118,7 @@ const ROWS: &'static [Row] = &[
     ("G", "F", SCHEMA, "DATA;\n", 4, "", "device: schema\n"),
     ("S", "G", SCHEMA, "DATA;\n", 4, "", "device: file\n"),
     ("G", "G", SCHEMA, "DATA;\n", 4, "", "device: schema\n"),
-    // What isn't checked stands before the counts.
+    // Unchecked parts come before the counts.
     (
         "S",
         "F",
@@ -130,7 +130,7 @@ const ROWS: &'static [Row] = &[
     ),
 ];
 
-// Where the output has room for twelve bytes.
+// A row for an output with room for twelve bytes.
 const CUT: &'static [Row] = &[(
     "S",
     "F",
@@ -141,7 +141,7 @@ const CUT: &'static [Row] = &[(
     "device: output after 12 bytes\n",
 )];
 
-// Whether a row comes to what it says, over its schema and this file.
+// Whether a row is right, over its schema and this file.
 fn is_right_over(
     alloc: Global,
     keys: RandomState,
@@ -171,7 +171,7 @@ fn is_right_of(alloc: Global, keys: RandomState, file: &str, row: &Row, out_room
     ) && is_right_over(alloc, keys, &words, file, row, out_room)
 }
 
-// Whether a row comes to what it says, where the output has this room.
+// Whether a row is right if the output has this room.
 fn is_right(alloc: Global, keys: RandomState, row: &Row, out_room: usize) -> bool {
     let (_, _, _, data, ..) = *row;
     match FILE.replace(alloc, "DATA;\n", data) {
@@ -180,7 +180,7 @@ fn is_right(alloc: Global, keys: RandomState, row: &Row, out_room: usize) -> boo
     }
 }
 
-// The first row that comes to something else, where the output has this room.
+// Returns the number of the first wrong row if the output has this room, if any.
 fn wrong_row(
     alloc: Global,
     keys: RandomState,

@@ -1,7 +1,7 @@
-//! What words and devices make of a run, and the lines of its faults.
+//! The effect of arguments and devices on a run, and the lines of its faults.
 
 use super::{Ending, FILE, Paper, run};
-use command_line::usage::unread_words;
+use command_line::command_words::unread_words;
 use commands::command::{refuse, refuse_to_read};
 use devices::counted::Counted;
 use files::fault::{FileFault, Role, print_line};
@@ -59,8 +59,8 @@ const LOST: &str = "device: file\n";
 
 const PLAIN: &'static [&'static str] = &["stepmin", "plain", "F"];
 
-// The words, the file and whether it breaks, the room of the outputs, the status, how many bytes of
-// the file go out, and what stands on the error output.
+// The arguments, the file and whether it fails, the room of the outputs, the status, how many bytes
+// of the file are written, and what is printed on the error output.
 type Row = (
     &'static [&'static str],
     &'static str,
@@ -190,7 +190,7 @@ const ROWS: &'static [Row] = &[
     ),
 ];
 
-// Whether a run is what a row says.
+// Whether a run has the outcome of a row.
 fn is_right_run(run: &Ending, row: &Row) -> bool {
     let (_, _, _, _, _, status, sent, line) = *row;
     run.status == status
@@ -207,7 +207,7 @@ fn is_right(alloc: Global, keys: RandomState, row: &Row) -> bool {
     }
 }
 
-// The first row that comes to something else.
+// Returns the number of the first row with another outcome, if any.
 fn wrong_row(alloc: Global, keys: RandomState) -> Option<usize> {
     for i in 0..ROWS.len() {
         if !is_right(alloc, keys, &ROWS[i]) {
@@ -224,7 +224,8 @@ fn a_device_that_fails_is_told(rt: HostRuntime) -> Result<(), Fail> {
     Ok(())
 }
 
-// What a run says where this is its status, and how much goes to the other output.
+// Returns what a run with this status prints on its own output, and how much it prints on the other
+// one.
 fn said_by(status: u8, run: &Ending) -> (&[u8], usize) {
     if status == 0 {
         (run.out.as_slice(), run.err.len())
@@ -233,8 +234,9 @@ fn said_by(status: u8, run: &Ending) -> (&[u8], usize) {
     }
 }
 
-// The words of a row, the status, and what is said: wrong words on the error output, by a text that
-// begins so, and a text that is asked for on the output, just this one.
+// The arguments, the status, and the text that is printed. Wrong arguments print a text that begins
+// so on the error output. A text that is requested is printed on the output, and is exactly this
+// one.
 type Asked = (&'static [&'static str], u8, &'static str);
 
 const ASKED: &'static [Asked] = &[
@@ -290,7 +292,7 @@ const ASKED: &'static [Asked] = &[
     (&["stepmin", "check", "--help"], 0, CHECK_HELP),
 ];
 
-// Whether it is said, and nothing else.
+// Whether the text is printed, and nothing else.
 fn is_said_by(run: &Ending, status: u8, text: &str) -> bool {
     let (said, unsaid) = said_by(status, run);
     run.status == status
@@ -307,13 +309,13 @@ fn is_said(alloc: Global, keys: RandomState, row: &Asked) -> bool {
     }
 }
 
-// Whether three bytes of it are said alone, and the status is a device's.
+// Whether only three bytes of the text are printed, and the status is 4.
 fn is_cut_by(run: &Ending, status: u8) -> bool {
     let (said, unsaid) = said_by(status, run);
     run.status == 4 && unsaid == 0 && said.len() == 3
 }
 
-// Whether it is cut so where there is room for three bytes.
+// Whether the text is cut to three bytes if there is room for three.
 fn is_cut(alloc: Global, keys: RandomState, row: &Asked) -> bool {
     let (words, status, _) = *row;
     match run(alloc, keys, words, "", false, 3, 3) {
@@ -322,7 +324,7 @@ fn is_cut(alloc: Global, keys: RandomState, row: &Asked) -> bool {
     }
 }
 
-// The first row that comes to something else.
+// Returns the number of the first row with another outcome, if any.
 fn wrong_answer(alloc: Global, keys: RandomState) -> Option<usize> {
     for i in 0..ASKED.len() {
         if !is_said(alloc, keys, &ASKED[i]) || !is_cut(alloc, keys, &ASKED[i]) {
@@ -379,8 +381,8 @@ fn a_fault_has_its_line(rt: HostRuntime) {
     assert!(rt; has_line(alloc, unwritten, "device: certificate after 0 bytes\n"));
 }
 
-// Whether words that the system can't give for an error of this kind are refused with this status
-// and this line.
+// Whether arguments that the system can't deliver, with an error of this kind, are refused with
+// this status and this line.
 fn is_refused(alloc: Global, kind: io::ErrorKind, status: u8, line: &str) -> bool {
     let mut out = Counted::new(Paper::new(alloc, ALL));
     let mut err = Counted::new(Paper::new(alloc, ALL));
@@ -400,7 +402,7 @@ fn words_that_the_system_can_not_give_are_wrong(rt: HostRuntime) {
     assert!(rt; is_refused(rt.alloc(), io::ErrorKind::OutOfMemory, 5, "memory\n"));
 }
 
-// Whether it is told that no file can be read.
+// Whether it is reported that no file can be read.
 fn is_told(alloc: Global) -> bool {
     let mut err = Counted::new(Paper::new(alloc, ALL));
     let status = refuse_to_read(&mut err);

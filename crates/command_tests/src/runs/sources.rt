@@ -1,4 +1,4 @@
-//! A source that is read to its end, or fails, or is too long.
+//! A source that is read to its end, fails, or is too long.
 
 use devices::counted::Counted;
 use devices::device::Source;
@@ -8,7 +8,7 @@ use std::io;
 use std::io::Read;
 use std::test::*;
 
-// Gives `left` bytes, at most 1000 a call, and then fails or ends.
+// Delivers `left` bytes, at most 1000 per call, and then fails or ends.
 #[derive(Drop)]
 struct Letters {
     left: usize,
@@ -27,7 +27,7 @@ impl Read for Letters {
     }
 }
 
-// Whether so many letters, before an end or a failure, are read so under this limit.
+// Whether a source of `left` bytes before an end or a failure is read as expected under this limit.
 fn is_read(
     alloc: Global,
     left: usize,
@@ -43,7 +43,7 @@ fn is_read(
     answer == want && source.failed() == (want == Err(ReadFault::Device))
 }
 
-// How many letters there are, whether a failure is behind them, the limit, and how many are read.
+// The number of bytes, whether a failure comes after them, the limit, and the expected result.
 type Row = (usize, bool, u64, Result<usize, ReadFault>);
 
 const ROWS: &'static [Row] = &[
@@ -57,7 +57,7 @@ const ROWS: &'static [Row] = &[
     (2000, true, 1999, Err(ReadFault::TooLarge)),
 ];
 
-// The first row that isn't read so.
+// Returns the number of the first row with another result, if any.
 fn wrong_row(alloc: Global) -> Option<usize> {
     for i in 0..ROWS.len() {
         let (left, fails, limit, want) = ROWS[i];

@@ -10,10 +10,10 @@ use std::hash::RandomState;
 use std::rt::Files;
 use std::test::Fail;
 
-// Where the large file lies for a while.
+// The path of the large file during the test.
 const LARGE: &str = "a-large-file.stp";
 
-// Adds many points, each with this behind its name.
+// Adds many points, each with `behind` after its name.
 fn add_points(text: &mut String, behind: &str) -> bool {
     for name in 1..40000u32 {
         if write!(text, "#{name}{behind}\n").is_err() {
@@ -23,7 +23,7 @@ fn add_points(text: &mut String, behind: &str) -> bool {
     true
 }
 
-// The file with two further records in its header and these points.
+// Returns the file with two further records in its header and these points.
 fn with_points(alloc: Global, points: &str) -> Option<String> {
     match FILE.replace(alloc, "'GEO'));\n", "'GEO'));\nA(1);\nB('x');\n") {
         Ok(head) => head.as_str().replace(alloc, "DATA;\n", points).ok(),
@@ -31,7 +31,8 @@ fn with_points(alloc: Global, points: &str) -> Option<String> {
     }
 }
 
-// A file of more than a MiB with two further records in its header, in which points are spelt so.
+// Returns a file of more than one MiB with two further records in its header. Each point has
+// `behind` after its name.
 fn large_file(alloc: Global, behind: &str) -> Option<String> {
     let Ok(mut points) = String::from_str(alloc, "DATA;\n") else {
         return None;
@@ -42,7 +43,7 @@ fn large_file(alloc: Global, behind: &str) -> Option<String> {
     with_points(alloc, points.as_str())
 }
 
-// Whether the text can be laid into the file system.
+// Whether the text can be written to the file system.
 fn is_laid<R: Files>(rt: &R, alloc: Global, text: &str) -> bool {
     let mut folder = Folder::new(alloc, rt);
     let mut writer = folder.writer(LARGE);
@@ -51,7 +52,7 @@ fn is_laid<R: Files>(rt: &R, alloc: Global, text: &str) -> bool {
     put == Ok(text.len()) && folder.finish().is_ok()
 }
 
-// Whether the file that lies there has this normal text.
+// Whether the file in the file system has this normal text.
 fn is_normal_there<'x, R: Files>(
     rt: &'x R,
     alloc: Global,
@@ -64,7 +65,7 @@ fn is_normal_there<'x, R: Files>(
     run.comes_to(0, text.as_bytes(), b"")
 }
 
-// What fails first of the large file and its normal text.
+// Returns what fails first for the large file and its normal text, if anything.
 fn wrong_of<R: Files>(
     rt: &R,
     alloc: Global,

@@ -11,7 +11,7 @@ use Rattle.express_syntax.specs.Trees.{reference}
 use Rattle.express_syntax.specs.ExpressionViews.{capitals, root_of, tree_of, trees_of, alternatives_of, qualifiers_of, selections_of, selection_of}
 use Rattle.express_logic.specs.Data.{Datum, logical, aggregate, element, indeterminate, number}
 use Rattle.express_logic.specs.Logic.{both, either, negated}
-use Rattle.express_logic.specs.Comparing.{equal, member}
+use Rattle.express_logic.specs.Comparison.{equal, member}
 use Rattle.express_logic.specs.Views.{datum_of, text_of}
 use Rattle.conformance.specs.Expressions.{means, bound, of_junction, of_call, string_of, with_value, first_of_two, attribute_of, instance_attribute, instance_group, variable, is_of_type}
 use Rattle.express_logic.specs.Holdings.{size_of}
@@ -19,11 +19,11 @@ use Rattle.express_logic.specs.Literals.{whole_units}
 use Rattle.conformance.specs.Operations.{bare, says, is_true, or_else, limited, kept_shape, indexed, compared, size}
 use Rattle.rule_values.specs.declared.element.Element.TheVariants as elements
 use Rattle.rule_values.specs.Parts.{holding, element_datum, whole_elements}
-use Rattle.rule_values.specs.Scopes.{variables_of}
-use Rattle.rule_evaluation.specs.Weights.{weight}
-use Rattle.schema_derivations.specs.Formulas.{formula_seen, formula_place}
+use Rattle.rule_values.specs.steps.Scopes.{variables_of}
+use Rattle.rule_evaluation.specs.steps.Weights.{weight}
+use Rattle.schema_derived_attributes.specs.Formulas.{formula_seen, formula_place}
 use Rattle.rule_settings.specs.Settings.{below_rank, setting_by, derivation_in, or_nothing}
-use Rattle.rule_evaluation.specs.Contexts.{setting_in, worth_in, derived_in, instance_of, meaning_in, truth_in, between_in, selected_in, item_in, within_in, related_in, and_all_in, or_all_in, among_each_in, condition_in, passes_in, filtered_in, queried_in}
+use Rattle.rule_evaluation.specs.steps.Contexts.{setting_in, worth_in, derived_in, instance_of, meaning_in, truth_in, between_in, selected_in, item_in, within_in, related_in, and_all_in, or_all_in, among_each_in, condition_in, passes_in, filtered_in, queried_in}
 use Rattle.rule_evaluation.proofs.Arms.{part, part-truth, of-tree, or-known, or-unknown, related-is, related-in, related-not, typeof-is, typeof-not, other-is, or-is}
 use Rattle.rule_evaluation.proofs.Items.{item-plain, item-attribute, item-other}
 use Rattle.rule_values.proofs.Kept.{Keeps, keeps_none, keeps_next, keeps_all, Counts, counts_none, counts_next, counts_all, counts_within}
@@ -174,8 +174,8 @@ references::inside-returns t c =
       ap (λ (vs : Vec Variable Global). vs.items) c.replace-outer.ensures.value,
     )) c.evaluate-outcome.ensures
 
-pub evaluate::evaluate-returns-in-Parenthesized : goal.evaluate::evaluate-returns-in-Parenthesized
-evaluate::evaluate-returns-in-Parenthesized t c =
+pub evaluation::evaluate-returns-in-Parenthesized : goal.evaluation::evaluate-returns-in-Parenthesized
+evaluation::evaluate-returns-in-Parenthesized t c =
     let x = c.in-Parenthesized in
     on_ok_weaker c.evaluate.result
     (λ h. (
@@ -186,8 +186,8 @@ evaluate::evaluate-returns-in-Parenthesized t c =
       h.1,
     )) c.evaluate.ensures
 
-pub evaluate::evaluate_truth-returns : goal.evaluate::evaluate_truth-returns
-evaluate::evaluate_truth-returns t c =
+pub evaluation::evaluate_truth-returns : goal.evaluation::evaluate_truth-returns
+evaluation::evaluate_truth-returns t c =
     let found = c.in_ok-evaluate.ensures in ((λ m. c.truth.ensures ∙ ap says (found.0 m)), found.1)
 
 pub references::named-returns-in-Some : goal.references::named-returns-in-Some
@@ -340,8 +340,8 @@ references::selected-returns t c =
       inv.variables,
     )
 
-pub evaluate::within-returns-in-Parenthesized : goal.evaluate::within-returns-in-Parenthesized
-evaluate::within-returns-in-Parenthesized t c =
+pub evaluation::within-returns-in-Parenthesized : goal.evaluation::within-returns-in-Parenthesized
+evaluation::within-returns-in-Parenthesized t c =
     let x = c.in-Parenthesized in
     let s = option_map text_of c.args.text in
     let d = datum_of holding c.args.value.now in
@@ -352,8 +352,8 @@ evaluate::within-returns-in-Parenthesized t c =
       h.1,
     )) c.within.ensures
 
-pub evaluate::within-returns-then-is_known : goal.evaluate::within-returns-then-is_known
-evaluate::within-returns-then-is_known t c =
+pub evaluation::within-returns-then-is_known : goal.evaluation::within-returns-then-is_known
+evaluation::within-returns-then-is_known t c =
     let x = c.in-Aggregate in
     let s = option_map text_of c.args.text in
     let d = datum_of holding c.args.value.now in
@@ -366,16 +366,16 @@ evaluate::within-returns-then-is_known t c =
       h.1,
     )) c.among_each.ensures
 
-pub evaluate::is_member-returns : goal.evaluate::is_member-returns
-evaluate::is_member-returns t c =
+pub evaluation::is_member-returns : goal.evaluation::is_member-returns
+evaluation::is_member-returns t c =
     let found = c.in_ok-evaluate.ensures in (
       λ m. c.member.ensures
           ∙ ap (member (datum_of holding c.args.value.now)) (c.strip_type.ensures ∙ ap bare (found.0 m)),
       found.1,
     )
 
-pub evaluate::within-returns-then-not-is_typeof : goal.evaluate::within-returns-then-not-is_typeof
-evaluate::within-returns-then-not-is_typeof t c =
+pub evaluation::within-returns-then-not-is_typeof : goal.evaluation::within-returns-then-not-is_typeof
+evaluation::within-returns-then-not-is_typeof t c =
     let x = c.in-Call in
     let s = option_map text_of c.args.text in
     let d = datum_of holding c.args.value.now in
@@ -388,8 +388,8 @@ evaluate::within-returns-then-not-is_typeof t c =
       h.1,
     )) c.is_member.ensures
 
-pub evaluate::within-returns-in_ok-evaluate-in-Call : goal.evaluate::within-returns-in_ok-evaluate-in-Call
-evaluate::within-returns-in_ok-evaluate-in-Call t c =
+pub evaluation::within-returns-in_ok-evaluate-in-Call : goal.evaluation::within-returns-in_ok-evaluate-in-Call
+evaluation::within-returns-in_ok-evaluate-in-Call t c =
     let x = c.in-Call in
     let s = option_map text_of c.args.text in
     let d = datum_of holding c.args.value.now in
@@ -405,8 +405,8 @@ evaluate::within-returns-in_ok-evaluate-in-Call t c =
       found.1,
     )
 
-pub evaluate::within-returns-in_default : goal.evaluate::within-returns-in_default
-evaluate::within-returns-in_default t c =
+pub evaluation::within-returns-in_default : goal.evaluation::within-returns-in_default
+evaluation::within-returns-in_default t c =
     let s = option_map text_of c.args.text in
     let d = datum_of holding c.args.value.now in
     let no = c.in_default in
@@ -450,8 +450,8 @@ references::item_behind-returns-in_default-first t c = (
   refl,
 )
 
-pub evaluate::evaluate-returns-in-Query : goal.evaluate::evaluate-returns-in-Query
-evaluate::evaluate-returns-in-Query t c =
+pub evaluation::evaluate-returns-in-Query : goal.evaluation::evaluate-returns-in-Query
+evaluation::evaluate-returns-in-Query t c =
     let x = c.in-Query in
     let C = c.args.context.now in
     let vs = c.args.scope.now.variables.items in
@@ -466,8 +466,8 @@ evaluate::evaluate-returns-in-Query t c =
       h.1,
     )) c.query.ensures
 
-pub evaluate::evaluate-returns-in-Call : goal.evaluate::evaluate-returns-in-Call
-evaluate::evaluate-returns-in-Call t c =
+pub evaluation::evaluate-returns-in-Call : goal.evaluation::evaluate-returns-in-Call
+evaluation::evaluate-returns-in-Call t c =
     let x = c.in-Call in
     let C = c.args.context.now in
     let vs = c.args.scope.now.variables.items in
@@ -478,8 +478,8 @@ evaluate::evaluate-returns-in-Call t c =
       h.1,
     )) c.call.ensures
 
-pub evaluate::evaluate-returns-in-Nvl : goal.evaluate::evaluate-returns-in-Nvl
-evaluate::evaluate-returns-in-Nvl t c =
+pub evaluation::evaluate-returns-in-Nvl : goal.evaluation::evaluate-returns-in-Nvl
+evaluation::evaluate-returns-in-Nvl t c =
     let x = c.in-Nvl in
     let C = c.args.context.now in
     let vs = c.args.scope.now.variables.items in
@@ -491,8 +491,8 @@ evaluate::evaluate-returns-in-Nvl t c =
       h.1,
     )) c.first_known.ensures
 
-pub evaluate::condition-returns-in-Parenthesized : goal.evaluate::condition-returns-in-Parenthesized
-evaluate::condition-returns-in-Parenthesized t c =
+pub evaluation::condition-returns-in-Parenthesized : goal.evaluation::condition-returns-in-Parenthesized
+evaluation::condition-returns-in-Parenthesized t c =
     let x = c.in-Parenthesized in
     let C = c.args.context.now in
     let vs = c.args.scope.now.variables.items in
@@ -503,8 +503,8 @@ evaluate::condition-returns-in-Parenthesized t c =
       h.1,
     )) c.condition.ensures
 
-pub evaluate::condition-returns-in-Interval : goal.evaluate::condition-returns-in-Interval
-evaluate::condition-returns-in-Interval t c =
+pub evaluation::condition-returns-in-Interval : goal.evaluation::condition-returns-in-Interval
+evaluation::condition-returns-in-Interval t c =
     let x = c.in-Interval in
     let C = c.args.context.now in
     let vs = c.args.scope.now.variables.items in
@@ -519,8 +519,8 @@ evaluate::condition-returns-in-Interval t c =
       h.1,
     )) c.between.ensures
 
-pub evaluate::condition-returns-in_ok-evaluate_truth-in-Not : goal.evaluate::condition-returns-in_ok-evaluate_truth-in-Not
-evaluate::condition-returns-in_ok-evaluate_truth-in-Not t c =
+pub evaluation::condition-returns-in_ok-evaluate_truth-in-Not : goal.evaluation::condition-returns-in_ok-evaluate_truth-in-Not
+evaluation::condition-returns-in_ok-evaluate_truth-in-Not t c =
     let x = c.in-Not in
     let C = c.args.context.now in
     let vs = c.args.scope.now.variables.items in
@@ -530,8 +530,8 @@ evaluate::condition-returns-in_ok-evaluate_truth-in-Not t c =
       found.1,
     )
 
-pub evaluate::condition-returns-in-Ok : goal.evaluate::condition-returns-in-Ok
-evaluate::condition-returns-in-Ok t c =
+pub evaluation::condition-returns-in-Ok : goal.evaluation::condition-returns-in-Ok
+evaluation::condition-returns-in-Ok t c =
     let x = c.in-Conjunction in
     let C = c.args.context.now in
     let vs = c.args.scope.now.variables.items in
@@ -548,8 +548,8 @@ evaluate::condition-returns-in-Ok t c =
       h.1 ∙ one.1,
     )) c.and_all.ensures
 
-pub evaluate::condition-returns-in-Ok-evaluate_truth : goal.evaluate::condition-returns-in-Ok-evaluate_truth
-evaluate::condition-returns-in-Ok-evaluate_truth t c =
+pub evaluation::condition-returns-in-Ok-evaluate_truth : goal.evaluation::condition-returns-in-Ok-evaluate_truth
+evaluation::condition-returns-in-Ok-evaluate_truth t c =
     let x = c.in-Disjunction in
     let C = c.args.context.now in
     let vs = c.args.scope.now.variables.items in
@@ -566,8 +566,8 @@ evaluate::condition-returns-in-Ok-evaluate_truth t c =
       h.1 ∙ one.1,
     )) c.or_all.ensures
 
-pub evaluate::condition-returns-in-Comparison : goal.evaluate::condition-returns-in-Comparison
-evaluate::condition-returns-in-Comparison t c =
+pub evaluation::condition-returns-in-Comparison : goal.evaluation::condition-returns-in-Comparison
+evaluation::condition-returns-in-Comparison t c =
     let x = c.in-Comparison in
     let C = c.args.context.now in
     let vs = c.args.scope.now.variables.items in
@@ -583,8 +583,8 @@ evaluate::condition-returns-in-Comparison t c =
       h.1,
     )) c.related.ensures
 
-pub evaluate::between-returns : goal.evaluate::between-returns
-evaluate::between-returns t c =
+pub evaluation::between-returns : goal.evaluation::between-returns
+evaluation::between-returns t c =
     let C = c.args.context.now in
     let vs = c.args.scope.now.variables.items in
     let one = c.in_ok-first_value.ensures in
@@ -603,8 +603,8 @@ evaluate::between-returns t c =
       three.1 ∙ two.1 ∙ one.1,
     )
 
-pub evaluate::call-returns-then-is_sizeof : goal.evaluate::call-returns-then-is_sizeof
-evaluate::call-returns-then-is_sizeof t c =
+pub evaluation::call-returns-then-is_sizeof : goal.evaluation::call-returns-then-is_sizeof
+evaluation::call-returns-then-is_sizeof t c =
     let C = c.args.context.now in
     let vs = c.args.scope.now.variables.items in
     on_ok_weaker c.sized.result
@@ -613,8 +613,8 @@ evaluate::call-returns-then-is_sizeof t c =
       h.1,
     )) c.sized.ensures
 
-pub evaluate::sized-returns-in-Query : goal.evaluate::sized-returns-in-Query
-evaluate::sized-returns-in-Query t c =
+pub evaluation::sized-returns-in-Query : goal.evaluation::sized-returns-in-Query
+evaluation::sized-returns-in-Query t c =
     let x = c.in-Query in
     let C = c.args.context.now in
     let vs = c.args.scope.now.variables.items in
@@ -630,8 +630,8 @@ evaluate::sized-returns-in-Query t c =
       h.1,
     )) c.sized_query.ensures
 
-pub evaluate::sized-returns-in_ok-evaluate-in_default : goal.evaluate::sized-returns-in_ok-evaluate-in_default
-evaluate::sized-returns-in_ok-evaluate-in_default t c =
+pub evaluation::sized-returns-in_ok-evaluate-in_default : goal.evaluation::sized-returns-in_ok-evaluate-in_default
+evaluation::sized-returns-in_ok-evaluate-in_default t c =
     let found = c.in_ok-evaluate-in_default.ensures in
     on_ok_weaker c.replace_by_size.result (λ h. ((λ m. h ∙ ap (λ d. size (bare d)) (found.0 m)), found.1)) c.replace_by_size.ensures
 
@@ -708,13 +708,13 @@ queries::count_passing-returns t c =
       inv.variables,
     )
 
-pub evaluate::call-returns : goal.evaluate::call-returns
-evaluate::call-returns t c =
+pub evaluation::call-returns : goal.evaluation::call-returns
+evaluation::call-returns t c =
     let found = c.in_ok-evaluate.ensures in
     on_ok_weaker c.apply.result (λ h. ((λ m. h ∙ ap (of_call c.args.function) (found.0 m)), found.1)) c.apply.ensures
 
-pub evaluate::first_known-returns-then-is_known : goal.evaluate::first_known-returns-then-is_known
-evaluate::first_known-returns-then-is_known t c =
+pub evaluation::first_known-returns-then-is_known : goal.evaluation::first_known-returns-then-is_known
+evaluation::first_known-returns-then-is_known t c =
     let C = c.args.context.now in
     let vs = c.args.scope.now.variables.items in
     let found = c.in_ok-evaluate.ensures in
@@ -725,8 +725,8 @@ evaluate::first_known-returns-then-is_known t c =
       found.1,
     )
 
-pub evaluate::first_known-returns : goal.evaluate::first_known-returns
-evaluate::first_known-returns t c =
+pub evaluation::first_known-returns : goal.evaluation::first_known-returns
+evaluation::first_known-returns t c =
     let C = c.args.context.now in
     let vs = c.args.scope.now.variables.items in
     let found = c.in_ok-evaluate.ensures in
@@ -741,8 +741,8 @@ evaluate::first_known-returns t c =
       h.1 ∙ found.1,
     )) c.evaluate-2.ensures
 
-pub evaluate::related-returns-then-is_in : goal.evaluate::related-returns-then-is_in
-evaluate::related-returns-then-is_in t c =
+pub evaluation::related-returns-then-is_in : goal.evaluation::related-returns-then-is_in
+evaluation::related-returns-then-is_in t c =
     let C = c.args.context.now in
     let vs = c.args.scope.now.variables.items in
     let found = c.in_ok-first_value.ensures in
@@ -757,8 +757,8 @@ evaluate::related-returns-then-is_in t c =
       h.1 ∙ found.1,
     )) c.within.ensures
 
-pub evaluate::related-returns : goal.evaluate::related-returns
-evaluate::related-returns t c =
+pub evaluation::related-returns : goal.evaluation::related-returns
+evaluation::related-returns t c =
     let C = c.args.context.now in
     let vs = c.args.scope.now.variables.items in
     let found = c.in_ok-first_value.ensures in
@@ -887,12 +887,12 @@ references::named-returns-in-None t c =
       h.1,
     )) c.unbound.ensures
 
-pub evaluate::evaluate_truth-returns-then-is_condition : goal.evaluate::evaluate_truth-returns-then-is_condition
-evaluate::evaluate_truth-returns-then-is_condition t c =
+pub evaluation::evaluate_truth-returns-then-is_condition : goal.evaluation::evaluate_truth-returns-then-is_condition
+evaluation::evaluate_truth-returns-then-is_condition t c =
     IfOk-weaker c.condition.result _ _ (λ p h. ((λ m. ap says (h.0 m)), h.1)) c.condition.ensures
 
-pub evaluate::evaluate-returns-in-Reference : goal.evaluate::evaluate-returns-in-Reference
-evaluate::evaluate-returns-in-Reference t c =
+pub evaluation::evaluate-returns-in-Reference : goal.evaluation::evaluate-returns-in-Reference
+evaluation::evaluate-returns-in-Reference t c =
     let x = c.in-Reference in
     on_ok_weaker c.referred.result
     (λ h. (

@@ -5,8 +5,8 @@ use Rattle.express_logic.specs.Logic.{either}
 use Rattle.express_logic.specs.Views.{datum_of}
 use Rattle.rule_evaluation.specs.declared.context.Context.{Context}
 use Rattle.rule_values.specs.Parts.{holding, whole_elements}
-use Rattle.rule_evaluation.specs.Weights.{weight}
-use Rattle.rule_evaluation.specs.Contexts.{MeantBy, selected_in, and_all_in, or_all_in, among_each_in, condition_in}
+use Rattle.rule_evaluation.specs.steps.Weights.{weight}
+use Rattle.rule_evaluation.specs.steps.Contexts.{MeantBy, selected_in, and_all_in, or_all_in, among_each_in, condition_in}
 use Rattle.rule_values.proofs.Kept.{Keeps, Counts}
 use Rattle.rule_evaluation.proofs.+evaluation.Given as goal
 
@@ -14,35 +14,35 @@ use Rattle.rule_evaluation.proofs.+evaluation.Given as goal
 abbrev left : Context → ℕ
 left c = weight c.setting.now.formulas.now.rows.items c.limit
 
-abbrev pub decreases-evaluate::evaluate : goal.decreases-evaluate::evaluate
-decreases-evaluate::evaluate l = 16 * (goal.size-evaluate::evaluate l + left l.context.now) + 1
+abbrev pub decreases-evaluation::evaluate : goal.decreases-evaluation::evaluate
+decreases-evaluation::evaluate l = 16 * (goal.size-evaluation::evaluate l + left l.context.now) + 1
 
-abbrev pub decreases-evaluate::condition : goal.decreases-evaluate::condition
-decreases-evaluate::condition l = 16 * (goal.size-evaluate::condition l + left l.context.now)
+abbrev pub decreases-evaluation::condition : goal.decreases-evaluation::condition
+decreases-evaluation::condition l = 16 * (goal.size-evaluation::condition l + left l.context.now)
 
-abbrev pub decreases-evaluate::evaluate_truth : goal.decreases-evaluate::evaluate_truth
-decreases-evaluate::evaluate_truth l = 16 * (goal.size-evaluate::evaluate_truth l + left l.context.now) + 2
+abbrev pub decreases-evaluation::evaluate_truth : goal.decreases-evaluation::evaluate_truth
+decreases-evaluation::evaluate_truth l = 16 * (goal.size-evaluation::evaluate_truth l + left l.context.now) + 2
 
-abbrev pub decreases-evaluate::call : goal.decreases-evaluate::call
-decreases-evaluate::call l = 16 * (goal.size-evaluate::call l + left l.context.now) + 3
+abbrev pub decreases-evaluation::call : goal.decreases-evaluation::call
+decreases-evaluation::call l = 16 * (goal.size-evaluation::call l + left l.context.now) + 3
 
-abbrev pub decreases-evaluate::first_known : goal.decreases-evaluate::first_known
-decreases-evaluate::first_known l = 16 * (max (size-Expr l.first.now) (size-Expr l.second.now) + left l.context.now) + 3
+abbrev pub decreases-evaluation::first_known : goal.decreases-evaluation::first_known
+decreases-evaluation::first_known l = 16 * (max (size-Expr l.first.now) (size-Expr l.second.now) + left l.context.now) + 3
 
-abbrev pub decreases-evaluate::first_value : goal.decreases-evaluate::first_value
-decreases-evaluate::first_value l = 16 * (max (size-Expr l.first.now) (size-Expr l.second.now) + left l.context.now) + 4
+abbrev pub decreases-evaluation::first_value : goal.decreases-evaluation::first_value
+decreases-evaluation::first_value l = 16 * (max (size-Expr l.first.now) (size-Expr l.second.now) + left l.context.now) + 4
 
-abbrev pub decreases-evaluate::between : goal.decreases-evaluate::between
-decreases-evaluate::between l = 16 * (max (size-Expr l.low.now) (max (size-Expr l.item.now) (size-Expr l.high.now)) + left l.context.now) + 5
+abbrev pub decreases-evaluation::between : goal.decreases-evaluation::between
+decreases-evaluation::between l = 16 * (max (size-Expr l.low.now) (max (size-Expr l.item.now) (size-Expr l.high.now)) + left l.context.now) + 5
 
-abbrev pub decreases-evaluate::related : goal.decreases-evaluate::related
-decreases-evaluate::related l = 16 * (max (size-Expr l.left.now) (size-Expr l.right.now) + left l.context.now) + 6
+abbrev pub decreases-evaluation::related : goal.decreases-evaluation::related
+decreases-evaluation::related l = 16 * (max (size-Expr l.left.now) (size-Expr l.right.now) + left l.context.now) + 6
 
-abbrev pub decreases-evaluate::is_member : goal.decreases-evaluate::is_member
-decreases-evaluate::is_member l = 16 * (goal.size-evaluate::is_member l + left l.context.now) + 3
+abbrev pub decreases-evaluation::is_member : goal.decreases-evaluation::is_member
+decreases-evaluation::is_member l = 16 * (goal.size-evaluation::is_member l + left l.context.now) + 3
 
-abbrev pub decreases-evaluate::within : goal.decreases-evaluate::within
-decreases-evaluate::within l = 16 * (goal.size-evaluate::within l + left l.context.now) + 5
+abbrev pub decreases-evaluation::within : goal.decreases-evaluation::within
+decreases-evaluation::within l = 16 * (goal.size-evaluation::within l + left l.context.now) + 5
 
 abbrev pub decreases-lists::among_each : goal.decreases-lists::among_each
 decreases-lists::among_each l = 16 * (goal.size-lists::among_each l + left l.context.now) + 4
@@ -62,8 +62,8 @@ decreases-lists::want_terms l = 16 * (goal.size-lists::want_terms l + left l.con
 abbrev pub decreases-queries::query : goal.decreases-queries::query
 decreases-queries::query l = 16 * (max (size-Expr l.source.now) (size-Expr l.condition.now) + left l.context.now) + 6
 
-abbrev pub decreases-evaluate::sized : goal.decreases-evaluate::sized
-decreases-evaluate::sized l = 16 * (goal.size-evaluate::sized l + left l.context.now) + 2
+abbrev pub decreases-evaluation::sized : goal.decreases-evaluation::sized
+decreases-evaluation::sized l = 16 * (goal.size-evaluation::sized l + left l.context.now) + 2
 
 abbrev pub decreases-queries::sized_query : goal.decreases-queries::sized_query
 decreases-queries::sized_query l = 16 * (max (size-Expr l.source.now) (size-Expr l.condition.now) + left l.context.now) + 6

@@ -1,4 +1,4 @@
-//! The bits of binaries: how many there are and which, equality, order and hash.
+//! The bits of binaries: their count and values, equality, order and hash.
 ghost use Rattle.std.specs.Prelude.{◌≡◌, ◌<◌, true, length};
 ghost use Rattle.std.specs.List.{list_all, slice_get};
 ghost use Rattle.std.specs.Iterator.{YieldsFirst, item_count};
@@ -14,10 +14,11 @@ use crate::literal::Bits;
 use std::cmp::Ordering;
 use std::hash::{Hash, Hasher};
 
-/// Fed behind the bits: it is none, so that no binary's feed begins another's.
+/// The byte that a hasher gets after the bits. It is no bit, so the bytes of no binary are a prefix
+/// of another's.
 const END: u8 = 0xFF;
 
-/// The bit of a hexadecimal digit at this place, the greatest at 0.
+/// Returns the bit of a hexadecimal digit at `place`, 0 for the greatest bit.
 fn digit_bit(digit: u8, place: usize) -> bool
     requires hex { is_hex digit ≡ true }
     requires within { place < 4 }
@@ -26,18 +27,18 @@ fn digit_bit(digit: u8, place: usize) -> bool
     (hex_value(digit) >> (3 - place)) % 2 == 1
 }
 
-/// What is left of the bits of a binary.
+/// The rest of the bits of a binary.
 #[derive(Drop)]
 struct BitsLeft<'a> {
     digits: &'a [u8],
-    /// How many bits of the first of these digits are passed.
+    /// The number of bits of the first digit that were already returned or are left out.
     passed: usize,
     ghost hex: { list_all is_hex digits.now ≡ true },
     ghost within: { passed < 4 },
 }
 
 impl<'a> Iterator for BitsLeft<'a> {
-    ghost use Rattle.step_literals.specs.BitsLeft.{bits_left};
+    ghost use Rattle.step_literals.specs.steps.BitsLeft.{bits_left};
 
     type Item = bool;
 
@@ -59,9 +60,9 @@ impl<'a> Iterator for BitsLeft<'a> {
 }
 
 impl<'a> Bits<'a> {
-    ghost use Rattle.step_literals.specs.BitsLeft.{bits_left};
+    ghost use Rattle.step_literals.specs.steps.BitsLeft.{bits_left};
 
-    /// How many of the first bits are left out, and the digits.
+    /// Returns the number of first bits that are left out, and the digits.
     fn parts(&self) -> (usize, &'a [u8])
         ensures unused { result.0 ≡ unused_bits self.now.text.now }
         ensures few { result.0 < 4 }
@@ -83,7 +84,7 @@ impl<'a> Bits<'a> {
         }
     }
 
-    /// How many bits it has.
+    /// Returns the number of bits.
     pub fn len(&self) -> u128
         ensures { result ≡ length (bits_of self.now.text.now) }
     {
@@ -91,7 +92,7 @@ impl<'a> Bits<'a> {
         4 * digits.len() as u128 - unused as u128
     }
 
-    /// The bit at this index, counted from the first, if there are so many.
+    /// Returns the bit at `index`, counted from the first, or `None` if there are too few.
     pub fn bit(&self, index: usize) -> Option<bool>
         ensures { result ≡ slice_get (bits_of self.now.text.now) index }
     {
@@ -120,7 +121,7 @@ impl<'a> Eq for Bits<'a> {
 }
 
 impl<'a> PartialOrd for Bits<'a> {
-    ghost use Rattle.step_literals.specs.BitListLemmas.{on_bits_po};
+    ghost use Rattle.step_literals.specs.steps.BitListLemmas.{on_bits_po};
     ghost use Rattle.step_literals.specs.Values.{bits_value};
 
     ghost partial_cmp = { as_partial_cmp (on bits_value (slice_cmp bool_cmp)) };
@@ -133,7 +134,7 @@ impl<'a> PartialOrd for Bits<'a> {
 }
 
 impl<'a> Ord for Bits<'a> {
-    ghost use Rattle.step_literals.specs.BitListLemmas.{bits_ties};
+    ghost use Rattle.step_literals.specs.steps.BitListLemmas.{bits_ties};
     ghost use Rattle.step_literals.specs.Values.{bits_value};
 
     ghost cmp = { on bits_value (slice_cmp bool_cmp) };
@@ -150,7 +151,7 @@ impl<'a> Ord for Bits<'a> {
 }
 
 impl<'a> Hash for Bits<'a> {
-    ghost use Rattle.step_literals.specs.BitListLemmas.{same_fed};
+    ghost use Rattle.step_literals.specs.steps.BitListLemmas.{same_fed};
     ghost use Rattle.step_literals.specs.Bits.{fed_bits};
     ghost use Rattle.step_literals.specs.Values.{bits_value};
 

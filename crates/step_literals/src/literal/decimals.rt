@@ -1,4 +1,4 @@
-//! Numbers, compared by what they are worth.
+//! Numbers, compared by their values.
 
 ghost use Rattle.std.specs.Prelude.{
   ◌≡◌,
@@ -41,7 +41,7 @@ ghost use Rattle.step_literals.specs.DecimalKeys.{front_writes, summary};
 ghost use Rattle.std.specs.Str.Parse.{digits_value_after};
 ghost use Rattle.step_literals.specs.Bytes.{is_digit, Each};
 ghost use Rattle.step_literals.specs.Numbers.{exponent_text};
-ghost use Rattle.step_literals.specs.DigitStrings.{
+ghost use Rattle.step_literals.specs.steps.DigitStrings.{
   significant,
   is_significant,
   has_digit,
@@ -60,22 +60,23 @@ use crate::numbers::{is_negative, number_of, sign_len};
 use std::cmp::Ordering;
 use std::hash::{Hash, Hasher};
 
-/// Numbers are counted in units of 10 ^ -1,000,400, in which those within the limits are whole.
+/// Numbers are counted in units of 10 ^ -`FINEST`. Every number within the limits is a whole number
+/// of units.
 const FINEST: u32 = 1_000_400;
 
-/// No number of more digits than this is within the range of `i64`.
+/// No whole number with more digits than this is in the range of `i64`.
 const LONGEST_WHOLE: usize = 19;
 
-/// How many digits a number of 64 bits tells.
+/// The number of digits that a number of 64 bits can hold.
 const TOLD: usize = 19;
 
-/// Greater than twice the digits of a number, and one.
+/// A number greater than twice the count of digits of a number, plus one.
 const COUNTS: u64 = 1024;
 
-/// How many numbers of 64 bits there are.
+/// The number of values of 64 bits.
 const WORDS: u128 = 0x1_0000_0000_0000_0000;
 
-/// The digits of a number from the first that isn't 0 on, before and behind the point.
+/// The digits of a number before and after the point, from the first that isn't 0 on.
 #[derive(Clone, Copy)]
 struct Digits<'a> {
     below_zero: bool,
@@ -89,7 +90,7 @@ struct Digits<'a> {
 }
 
 impl<'a> Digits<'a> {
-    ghost use Rattle.step_literals.specs.Digits.{digits_of, magnitude_of, worth_of};
+    ghost use Rattle.step_literals.specs.steps.Digits.{digits_of, magnitude_of, worth_of};
 
     fn len(&self) -> usize
         ensures len { result ≡ length (digits_of self.now) }
@@ -98,7 +99,7 @@ impl<'a> Digits<'a> {
         self.whole.len() + self.part.len()
     }
 
-    /// The value of digit `i`, 0 past the end.
+    /// Returns the value of digit `i`, or 0 past the end.
     fn digit(&self, i: usize) -> u8
         ensures { result ≡ digit (digits_of self.now) i }
     {
@@ -113,7 +114,7 @@ impl<'a> Digits<'a> {
         }
     }
 
-    /// The power of ten above the first digit, 0 where there is none.
+    /// Returns the power of ten above the first digit, or 0 if there are no digits.
     fn top(&self) -> usize
         ensures value { result ≡ top (digits_of self.now) self.now.shift }
         ensures bound { result < 2 ^ 33 }
@@ -126,7 +127,7 @@ impl<'a> Digits<'a> {
         }
     }
 
-    /// How many digits are left without the zeros at their end.
+    /// Returns the number of digits without the zeros at their end.
     fn end(&self) -> usize
         ensures end { result ≡ end_of (length (digits_of self.now)) (digits_of self.now) }
         ensures within { result ≤ length (digits_of self.now) }
@@ -140,7 +141,7 @@ impl<'a> Digits<'a> {
         }
     }
 
-    /// The number that the first digits write, modulo 2^64.
+    /// Returns the number that the first `len` digits write, with zeros past the end, modulo 2^64.
     fn front_value(&self, len: usize) -> u64
         ensures { result ≡ front_value len (digits_of self.now) % 2 ^ 64 }
     {
@@ -155,19 +156,21 @@ impl<'a> Digits<'a> {
         value
     }
 
-    /// What tells a number of fewer than nineteen digits from others, in one: what the first digits write, modulo 2^64,
-    /// and above that how many they are, the sign, and the power of ten above the first.
+    /// Returns a summary that distinguishes numbers of fewer than nineteen digits. It has the
+    /// number that the first `len` digits write, modulo 2^64, and above that `len`, the sign, and
+    /// the power of ten above the first digit.
     fn summary(&self, len: usize) -> u128
         requires { len ≤ 400 }
-        ensures { result ≡ summary len self.now.below_zero (digits_of self.now) (top (digits_of self.now) self.now.shift) }
+        ensures { result ≡ summary len self.now.below_zero (digits_of self.now)
+            (top (digits_of self.now) self.now.shift) }
     {
         let count = 2 * len as u64 + u64::from(self.below_zero);
         let above = count + COUNTS * self.top() as u64;
         u128::from(self.front_value(len)) + WORDS * u128::from(above)
     }
 
-    /// Feeds a hasher the first digits by each nineteen of them, which a number of 64 bits tells: none where they are
-    /// fewer.
+    /// Writes the first `len` digits to a hasher, at each nineteenth digit as the number so far,
+    /// modulo 2^64. Writes nothing if there are fewer than nineteen.
     fn feed<H: Hasher>(&self, len: usize, state: &mut H)
         ensures { state.new ≡ fold H.write state.old (front_writes len (digits_of self.now)) }
     {
@@ -176,7 +179,8 @@ impl<'a> Digits<'a> {
         }
     }
 
-    /// Feeds a hasher the first digits by each nineteen of them, however many they are.
+    /// Writes the first `len` digits to a hasher, at each nineteenth digit as the number so far,
+    /// modulo 2^64.
     #[inline(never)]
     fn feed_each<H: Hasher>(&self, len: usize, state: &mut H)
         ensures { state.new ≡ fold H.write state.old (front_writes len (digits_of self.now)) }
@@ -192,7 +196,7 @@ impl<'a> Digits<'a> {
         }
     }
 
-    /// The number with its sign turned, if that is asked for.
+    /// Returns the number, negated if `is_turned`.
     fn turned(self, is_turned: bool) -> Digits<'a>
         ensures { worth_of result ≡ turned is_turned (worth_of self.entry) }
     {
@@ -204,7 +208,8 @@ impl<'a> Digits<'a> {
         }
     }
 
-    /// The whole number that it is; none where it isn't whole, or not within the range of `i64`.
+    /// Returns the whole number that this number equals, or `None` if it isn't whole or isn't in
+    /// the range of `i64`.
     fn whole(&self) -> Option<i64>
         ensures { MatchOption result
             ((n : ℤ) → FitsSigned w64 n → IsWhole (worth_of self.now) n → ⊥)
@@ -223,7 +228,7 @@ impl<'a> Digits<'a> {
         .ok()
     }
 
-    /// Compares the numbers.
+    /// Compares two numbers.
     fn compare(&self, other: &Digits<'_>) -> Ordering
         ensures { result ≡ int_cmp (worth_of self.now) (worth_of other.now) }
     {
@@ -235,7 +240,7 @@ impl<'a> Digits<'a> {
         }
     }
 
-    /// Compares the number without its sign with a whole number.
+    /// Compares this number without its sign with a whole number.
     fn compare_whole_magnitude(&self, whole: u64) -> Ordering
         requires { whole ≤ 2 ^ 63 }
         ensures { result ≡ nat_cmp (magnitude_of self.now) (whole * 10 ^ finest) }
@@ -251,7 +256,7 @@ impl<'a> Digits<'a> {
         front.cmp(&whole)
     }
 
-    /// Compares the numbers without their signs.
+    /// Compares two numbers without their signs.
     fn compare_magnitude(&self, other: &Digits<'_>) -> Ordering
         ensures { result ≡ nat_cmp (magnitude_of self.now) (magnitude_of other.now) }
     {
@@ -269,7 +274,7 @@ impl<'a> Digits<'a> {
     }
 }
 
-/// How many zeros the bytes begin with.
+/// Returns the number of zeros at the start of `bytes`.
 fn zeros_len(bytes: &[u8]) -> usize
     ensures len { result ≡ prefix_len (λ b. b == 48) bytes.now }
     ensures within { result ≤ length bytes.now }
@@ -277,7 +282,7 @@ fn zeros_len(bytes: &[u8]) -> usize
     bytes.iter().take_while(|b| **b == b'0').count()
 }
 
-/// How many of the digits are left without the zeros at their end.
+/// Returns the number of digits without the zeros at their end.
 fn kept_len(digits: &[u8]) -> usize
     ensures end { result ≡ end_of (length digits.now) digits.now }
     ensures within { result ≤ length digits.now }
@@ -289,7 +294,7 @@ fn kept_len(digits: &[u8]) -> usize
     end
 }
 
-/// The number that digits write behind those of another number, modulo 2^64.
+/// Returns the number that `digits` write after the digits of `front`, modulo 2^64.
 fn value_behind(front: u64, digits: &[u8]) -> u64
     requires { Each is_digit digits.now }
     ensures { result ≡ digits_value_after 10 front digits.now % 2 ^ 64 }
@@ -303,10 +308,11 @@ fn value_behind(front: u64, digits: &[u8]) -> u64
     value
 }
 
-/// The digits before and behind the point, without the zeros that lead.
+/// Returns the digits before and after the point without leading zeros.
 fn without_zeros<'a>(whole: &'a [u8], part: &'a [u8]) -> (&'a [u8], &'a [u8])
     ensures digits { result.0.now ++ result.1.now ≡ significant (whole.now ++ part.now) }
-    ensures within { length result.0.now + length result.1.now ≤ length whole.now + length part.now }
+    ensures within { length result.0.now + length result.1.now ≤ length whole.now + length
+        part.now }
 {
     let zeros = zeros_len(whole);
     let (_, left) = whole.split_at(zeros);
@@ -319,9 +325,9 @@ fn without_zeros<'a>(whole: &'a [u8], part: &'a [u8]) -> (&'a [u8], &'a [u8])
 }
 
 impl<'a> Decimal<'a> {
-    ghost use Rattle.step_literals.specs.Digits.{digits_of, magnitude_of};
+    ghost use Rattle.step_literals.specs.steps.Digits.{digits_of, magnitude_of};
 
-    /// Its digits before the point and behind it, and the bytes behind its `E`.
+    /// Returns the digits before the point, the digits after it, and the bytes after the `E`.
     fn parts(&self) -> (&'a [u8], &'a [u8], &'a [u8])
         ensures digits { result.0.now ++ result.1.now ≡ mantissa_digits self.now.text.now }
         ensures part { length result.1.now ≡ length (part_digits self.now.text.now) }
@@ -336,8 +342,8 @@ impl<'a> Decimal<'a> {
         (whole, part, written)
     }
 
-    /// The power of ten of the last digit, in units, where these bytes stand behind its `E`, and so many
-    /// digits behind the point.
+    /// Returns the power of ten of the last digit, in units. `written` are the bytes after the `E`,
+    /// and `part_len` is the number of digits after the point.
     fn shift(&self, written: &[u8], part_len: usize) -> u32
         requires exponent { written.now ≡ exponent_text self.now.text.now }
         requires part { part_len ≡ length (part_digits self.now.text.now) }
@@ -371,8 +377,8 @@ impl<'a> Decimal<'a> {
         }
     }
 
-    /// The whole number that it is worth, however it is spelt; none where it isn't whole, or not
-    /// within the range of `i64`.
+    /// Returns the whole number that this number equals, however it is spelt, or `None` if it isn't
+    /// whole or isn't in the range of `i64`.
     pub fn whole(&self) -> Option<i64>
         ensures { MatchOption result
             ((n : ℤ) → FitsSigned w64 n → IsWorth self.now.text.now n → ⊥)
@@ -381,8 +387,8 @@ impl<'a> Decimal<'a> {
         self.digits().whole()
     }
 
-    /// The whole number that it is worth with its sign turned where that is asked for; none where that
-    /// isn't whole, or not within the range of `i64`.
+    /// Returns the whole number that this number equals, negated if `is_turned`. Returns `None` if
+    /// that isn't whole or isn't in the range of `i64`.
     pub fn whole_turned(&self, is_turned: bool) -> Option<i64>
         ensures { MatchOption result
             ((n : ℤ) → FitsSigned w64 n → IsWhole (turned is_turned (units self.now.text.now)) n
@@ -392,7 +398,7 @@ impl<'a> Decimal<'a> {
         self.digits().turned(is_turned).whole()
     }
 
-    /// Compares what the two are worth, each with its sign turned where that is asked for.
+    /// Compares the values of two numbers, each negated if the flag after it is set.
     pub fn compare_turned(
         &self,
         is_turned: bool,
@@ -406,7 +412,7 @@ impl<'a> Decimal<'a> {
         digits.compare(&other.digits().turned(is_other_turned))
     }
 
-    /// Compares what it is worth with a whole number.
+    /// Compares the value of the number with a whole number.
     pub fn compare_whole(&self, whole: i64) -> Ordering
         ensures { result ≡ int_cmp (units self.now.text.now) (whole *ℤ ten_to (pos finest)) }
     {
@@ -470,7 +476,7 @@ impl<'a> Ord for Decimal<'a> {
 
 impl<'a> Hash for Decimal<'a> {
     ghost use Rattle.step_literals.specs.DecimalKeys.{key_writes};
-    ghost use Rattle.step_literals.specs.DecimalKeyLemmas.{key_respects_eq};
+    ghost use Rattle.step_literals.specs.steps.DecimalKeyLemmas.{key_respects_eq};
 
     ghost hash_input = { key_writes };
 

@@ -5,16 +5,14 @@ ghost use Rattle.std.specs.Iterator.{YieldsFirst, item_count};
 
 use super::rest::Rest;
 
-/// One character of a string.
-///
-/// A character of ISO 10646 is its code, however it is spelt.
+/// A character of a string. A character of ISO 10646 is its code, however it is spelt.
 #[derive(Clone, Copy, Debug, PartialEq, Eq, PartialOrd, Ord, Hash)]
 pub enum Item {
-    /// The character of this code
+    /// The character with this code
     Code(u32),
-    /// The character of this code on a page of ISO 8859 beyond the first
+    /// The character with this code on a page of ISO 8859 beyond the first
     Page(u8, u8),
-    /// A byte from 128 up that is no part of UTF-8
+    /// A byte from 128 up that isn't part of UTF-8
     Raw(u8),
 }
 
@@ -26,9 +24,9 @@ pub struct Items<'a> {
 
 impl<'a> Items<'a> {
     ghost use Rattle.step_literals.specs.Strings.{clean};
-    ghost use Rattle.step_literals.specs.Rests.{items_left, clean_items};
+    ghost use Rattle.step_literals.specs.steps.Rests.{items_left, clean_items};
 
-    /// Those of what stands between the apostrophes.
+    /// Returns the characters of the content between the apostrophes.
     pub(super) fn of_content(content: &'a [u8]) -> Items<'a>
         ensures { items_left result ≡ clean_items 1 (clean content.now) }
     {
@@ -39,7 +37,7 @@ impl<'a> Items<'a> {
 }
 
 impl<'a> Iterator for Items<'a> {
-    ghost use Rattle.step_literals.specs.Rests.{items_left};
+    ghost use Rattle.step_literals.specs.steps.Rests.{items_left};
 
     type Item = Item;
 

@@ -1,4 +1,4 @@
-// What is left of the content of a string, read a character at a time.
+// The rest of a string's content, read one character at a time.
 ghost use Rattle.std.specs.Prelude.{
   ◌≡◌,
   ◌≤◌,
@@ -15,7 +15,7 @@ ghost use Rattle.std.specs.Prelude.{
 ghost use Rattle.std.specs.List.{prefix_len};
 ghost use Rattle.step_literals.specs.Bytes.{Stops, is_hex};
 ghost use Rattle.step_literals.specs.Strings.{clean, is_high, shift_at, code_at, groups_at};
-ghost use Rattle.step_literals.specs.Inside.{is_sound, run_inside};
+ghost use Rattle.step_literals.specs.steps.Inside.{is_sound, run_inside};
 
 use super::items::Item;
 use crate::bytes::is_hex;
@@ -27,19 +27,19 @@ const APOSTROPHE: Item = Item::Code(39);
 
 const BACKSLASH: Item = Item::Code(92);
 
-/// A piece of several characters, of which some are read already.
+/// A piece with several characters, some of which are already read.
 #[derive(Clone, Copy)]
 pub enum Inside {
     Nothing,
-    /// Behind `\X2\` or `\X4\`, before a group of so many digits or `\X0\`
+    /// After `\X2\` or `\X4\`, before a group of this many digits or `\X0\`
     Groups(usize),
     /// In a run of bytes from 128 up that is UTF-8
     Characters,
-    /// In one that isn't
+    /// In a run of bytes from 128 up that isn't UTF-8
     Bytes,
 }
 
-/// What is left of a string's content, the page in force, and what it begins inside of.
+/// The rest of a string's content, the current page, and the piece that the rest begins inside of.
 #[derive(Clone, Copy)]
 pub struct Rest<'a> {
     bytes: &'a [u8],
@@ -48,11 +48,11 @@ pub struct Rest<'a> {
     pub ghost sound: { is_sound inside (clean bytes.now) ≡ true },
 }
 
-/// A character, unless what was read says none, and what is left.
+/// A character, or `None` if what was read has no character, and the rest.
 type Step<'a> = (Option<Item>, Rest<'a>);
 
 impl<'a> Rest<'a> {
-    ghost use Rattle.step_literals.specs.Rests.{
+    ghost use Rattle.step_literals.specs.steps.Rests.{
       rest_items,
       bytes_left,
       page_items,
@@ -64,7 +64,7 @@ impl<'a> Rest<'a> {
       RowSteps,
     };
 
-    /// What is left before a piece.
+    /// Returns the rest that begins at the start of a piece.
     pub fn new(bytes: &'a [u8], page: u8) -> Rest<'a>
         ensures bytes { result.bytes.now ≡ bytes.now }
         ensures page { result.page ≡ page }
@@ -77,7 +77,7 @@ impl<'a> Rest<'a> {
         }
     }
 
-    /// The next character, or a piece of none, and what is left.
+    /// Returns the next character, or no character for a piece without one, and the rest.
     pub fn step(self) -> Option<Step<'a>>
         ensures { Steps (rest_items self.entry) (bytes_left self.entry) result }
     {
@@ -87,7 +87,7 @@ impl<'a> Rest<'a> {
         }
     }
 
-    /// The next character of what it is inside of, and what is left.
+    /// Returns the next character of the piece that the rest begins inside of, and what follows it.
     fn inner(self) -> Option<(Item, Rest<'a>)>
         ensures { MatchOption result (IsOver self.entry.inside (bytes_left self.entry))
             (λ step. Goes (rest_items self.entry) (bytes_left self.entry) (Some step.0) step.1) }
@@ -104,7 +104,8 @@ impl<'a> Rest<'a> {
         ))
     }
 
-    /// The next character of what it is inside of, and the bytes behind it.
+    /// Returns the next character of the piece that the rest begins inside of, and the bytes after
+    /// it.
     fn character(self) -> Option<(Item, &'a [u8])>
         ensures { MatchOption result (IsOver self.entry.inside (bytes_left self.entry))
             (λ next. GoesOn self.entry.inside self.entry.page
@@ -133,7 +134,8 @@ impl<'a> Rest<'a> {
         }
     }
 
-    /// What is left behind what it is inside of, where that has no more.
+    /// Returns what follows the piece that the rest begins inside of, once that has no more
+    /// characters.
     fn outer(self) -> Rest<'a>
         requires { IsOver self.inside (clean self.bytes.now) }
         ensures left { clean_items result.page (clean result.bytes.now) ≡ rest_items self.entry }
@@ -145,7 +147,8 @@ impl<'a> Rest<'a> {
         }
     }
 
-    /// The first character of the piece at the front, or a piece of none.
+    /// Returns the first character of the piece at the start, or no character for a piece without
+    /// one, and the rest.
     fn piece(self) -> Option<Step<'a>>
         ensures { Steps (page_items self.entry) (bytes_left self.entry) result }
     {
@@ -164,7 +167,7 @@ impl<'a> Rest<'a> {
         }
     }
 
-    /// The first character of a run of bytes from 128 up.
+    /// Returns the first character of a run of bytes from 128 up, and the rest.
     fn run(self) -> Option<Step<'a>>
         requires { Stops is_high (clean self.bytes.now) → ⊥ }
         ensures { Steps (page_items self.entry) (bytes_left self.entry) result }
@@ -180,7 +183,8 @@ impl<'a> Rest<'a> {
         Some((Some(item), rest))
     }
 
-    /// The character of the directive at the front, or its first, or none.
+    /// Returns the first character of the directive at the start, or no character for one without,
+    /// and the rest.
     fn directive(self) -> Option<Step<'a>>
         requires { take 1 (clean self.bytes.now) ≡ 92 ∷ [] }
         ensures { Steps (page_items self.entry) (bytes_left self.entry) result }
@@ -207,7 +211,7 @@ impl<'a> Rest<'a> {
         Some((Some(BACKSLASH), Rest::new(skip(bytes, 1), self.page)))
     }
 
-    /// The character behind `\S\`.
+    /// Returns the character after `\S\`, and the rest.
     fn shifted(bytes: &'a [u8], page: u8) -> Option<Step<'a>>
         ensures { RowSteps (shift_at (clean bytes.now)) 3 page (clean bytes.now) result }
     {
@@ -221,7 +225,7 @@ impl<'a> Rest<'a> {
         Some((Some(item), Rest::new(after, page)))
     }
 
-    /// The character behind `\X\`.
+    /// Returns the character after `\X\`, and the rest.
     fn coded(bytes: &'a [u8], page: u8) -> Option<Step<'a>>
         ensures { RowSteps (code_at (clean bytes.now)) 3 page (clean bytes.now) result }
     {
@@ -230,7 +234,7 @@ impl<'a> Rest<'a> {
         Some((Some(Item::Code(code)), Rest::new(after, page)))
     }
 
-    /// What is left behind `\X2\` or `\X4\`.
+    /// Returns the rest after `\X2\` or `\X4\`.
     fn grouped(bytes: &'a [u8], page: u8, width: usize) -> Option<Step<'a>>
         requires some { 0 < width }
         requires few { width ≤ 8 }
@@ -249,7 +253,7 @@ impl<'a> Rest<'a> {
     }
 }
 
-/// Whether a hexadecimal digit stands at the front.
+/// Whether the bytes begin with a hexadecimal digit.
 fn begins_hex(bytes: &[u8]) -> bool
     ensures { MatchBool result (0 < prefix_len is_hex (clean bytes.now))
         (Stops is_hex (clean bytes.now)) }
@@ -260,7 +264,7 @@ fn begins_hex(bytes: &[u8]) -> bool
     }
 }
 
-/// How the run of bytes from 128 up at the front is read.
+/// Returns how the run of bytes from 128 up at the start is read: as UTF-8 or as single bytes.
 fn inside_run(bytes: &[u8]) -> Inside
     ensures { result ≡ run_inside (clean bytes.now) }
 {

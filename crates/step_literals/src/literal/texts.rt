@@ -1,4 +1,4 @@
-// Strings by what they say.
+// Strings, compared by their characters.
 ghost use Rattle.std.specs.Prelude.{◌≡◌, nat_eq};
 ghost use Rattle.std.specs.Cmp.Lexicographic.{slice_cmp, pointwise};
 ghost use Rattle.std.specs.Cmp.Rules.{comparing};
@@ -15,13 +15,15 @@ use crate::strings::content_of;
 use std::cmp::Ordering;
 use std::hash::{Hash, Hasher};
 
-/// Fed behind a string, so that strings that follow one another in one hash stay apart.
+/// The byte that a hasher gets after a string, so that consecutive strings in one hash stay
+/// distinct.
 const END: u8 = 0xFF;
 
-/// A code below this one is fed as one byte.
+/// Codes below this one are written as one byte.
 const WIDE: u32 = 0x80;
 
-/// Fed before the other codes, before characters of a page, and before bytes, so that no two characters are fed alike.
+/// The bytes written before other codes, before characters of a page, and before bytes, so that
+/// distinct characters are never written alike.
 const CODE: u8 = 0x80;
 
 const PAGE: u8 = 0x81;
@@ -29,16 +31,16 @@ const PAGE: u8 = 0x81;
 const RAW: u8 = 0x82;
 
 impl<'a> Text<'a> {
-    ghost use Rattle.step_literals.specs.Rests.{items_left};
+    ghost use Rattle.step_literals.specs.steps.Rests.{items_left};
 
-    /// Its characters in turn.
+    /// Returns the characters of the string, in turn.
     pub fn items(&self) -> Items<'a>
         ensures { items_left result ≡ text_items self.now }
     {
         Items::of_content(content_of(self.text))
     }
 
-    /// Feeds a hasher its characters.
+    /// Writes the characters of the string to a hasher.
     fn feed_items<H: Hasher>(&self, state: &mut H)
         ensures { state.new ≡ fold H.write state.old (flat_map item_writes (text_items self.now)) }
     {
@@ -109,7 +111,7 @@ impl<'a> Ord for Text<'a> {
 
 impl<'a> Hash for Text<'a> {
     ghost use Rattle.step_literals.specs.ItemKeys.{text_writes};
-    ghost use Rattle.step_literals.specs.ItemKeyLemmas.{writes_respect_eq};
+    ghost use Rattle.step_literals.specs.steps.ItemKeyLemmas.{writes_respect_eq};
 
     ghost hash_input = { text_writes };
 
@@ -121,7 +123,7 @@ impl<'a> Hash for Text<'a> {
     }
 }
 
-/// Feeds a hasher the code of a character.
+/// Writes the code of a character to a hasher.
 fn feed_code<H: Hasher>(code: u32, state: &mut H)
     ensures { state.new ≡ fold H.write state.old (code_writes code) }
 {
@@ -133,9 +135,11 @@ fn feed_code<H: Hasher>(code: u32, state: &mut H)
     }
 }
 
-/// Feeds a hasher the characters of a string in front that are spelt by themselves. What is left to feed is the answer.
+/// Writes the leading characters that are spelt by themselves to a hasher. Returns the rest of the
+/// content.
 fn feed_plain<'b, H: Hasher>(content: &'b [u8], state: &mut H) -> &'b [u8]
-    ensures { fold H.write state.new (content_writes result.now) ≡ fold H.write state.old (content_writes content.now) }
+    ensures { fold H.write state.new (content_writes result.now)
+        ≡ fold H.write state.old (content_writes content.now) }
 {
     let mut left = content;
     while let Some((byte, after)) = left.split_first() {
@@ -148,7 +152,7 @@ fn feed_plain<'b, H: Hasher>(content: &'b [u8], state: &mut H) -> &'b [u8]
     left
 }
 
-/// Feeds a hasher the characters of what stands between apostrophes.
+/// Writes the characters of the content between apostrophes to a hasher.
 fn feed_content<H: Hasher>(content: &[u8], state: &mut H)
     ensures { state.new ≡ fold H.write state.old (content_writes content.now) }
 {

@@ -12,7 +12,8 @@ use crate::literal::Word;
 use std::cmp::Ordering;
 use std::hash::{Hash, Hasher};
 
-/// Fed behind a word: no byte of one, so that no word's feed begins another's.
+/// The byte that a hasher gets after a word. It occurs in no word, so the bytes of no word are a
+/// prefix of another's.
 const END: u8 = 0xFF;
 
 impl<'a> PartialEq for Word<'a> {

@@ -2,7 +2,7 @@ use Rattle.std.proofs.Common.{subst, sym, ◌∙◌}
 use Rattle.express_syntax.specs.SchemaViews.{schema_of}
 use Rattle.files.specs.declared.fault.Role.TheVariants.{File, Schema}
 use Rattle.reports.specs.declared.report.Report.{Report}
-use Rattle.faults.proofs.Failing.{schema_alone, schema_first}
+use Rattle.reports.proofs.Failing.{schema_alone, schema_first}
 use Rattle.checking.specs.Checks.{SourceAnswers}
 use Rattle.checking.proofs.Answering.{of-file, of-names, of-text}
 use Rattle.checking.proofs.check.check_by.Goals as goal

@@ -3,7 +3,7 @@ use Rattle.std.specs.Prelude.{Vec}
 use Rattle.schema_names.specs.Schemas.{the_schema}
 use Rattle.files.specs.declared.fault.Role.TheVariants.{File, Schema}
 use Rattle.reports.specs.declared.report.Report.{Report}
-use Rattle.faults.proofs.Failing.{file_read, unread_device, unread_file, unread_other}
+use Rattle.reports.proofs.Failing.{file_read, unread_device, unread_file, unread_other}
 use Rattle.checking.specs.Checks.{FileAnswers}
 use Rattle.checking.proofs.Answering.{gives, no-device, of-source, unread-file}
 use Rattle.checking.proofs.check.report_source.Goals as goal

@@ -3,7 +3,7 @@ use Rattle.std.specs.Prelude.{Vec}
 use Rattle.files.specs.Stores.{reader_seen}
 use Rattle.files.specs.declared.fault.Role.TheVariants as roles
 use Rattle.reports.specs.declared.report.Report.{Report}
-use Rattle.faults.proofs.Failing.{unread_device, unread_other}
+use Rattle.reports.proofs.Failing.{unread_device, unread_other}
 use Rattle.checking.specs.Checks.{Checks}
 use Rattle.checking.proofs.Answering.{unread-schema}
 use Rattle.commands.proofs.CheckRuns.{one_failed, read_check, report_ends, unread_check}

@@ -1,6 +1,6 @@
 use Rattle.std.proofs.Common.{◌∙◌, IfSome, inl, inr, subst, sym}
 use Rattle.files.specs.Stores.{reader_seen}
-use Rattle.commands.specs.ComputedRequests.{IsWritten}
+use Rattle.commands.specs.steps.ComputedRequests.{IsWritten}
 use Rattle.commands.specs.Plain.{FailsAs, Plain}
 use Rattle.commands.proofs.Keeping.{checks_as, done_as, is_stored, is_stored_first}
 use Rattle.commands.proofs.Opening.{opens_two, request_opens}

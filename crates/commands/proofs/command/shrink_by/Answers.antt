@@ -1,4 +1,4 @@
-use Rattle.pin_choices.specs.Chosen.{choice_of}
+use Rattle.merge_choices.specs.ChosenEntities.{choice_of}
 use Rattle.commands.proofs.Keeping.{makes_smaller, others_kept}
 use Rattle.commands.proofs.Opening.{opens_six}
 use Rattle.commands.proofs.command.shrink_by.Goals as goal

@@ -2,8 +2,8 @@ use Rattle.std.proofs.Common.{ℕ, Global, Ok, Err, Some, ◌∙◌, ap, refl, s
 use Rattle.std.specs.Prelude.{Vec}
 use Rattle.files.specs.Stores.{reader_seen}
 use Rattle.files.specs.declared.fault.Role.TheVariants as roles
-use Rattle.pin_choices.specs.Chosen.{choice_of}
-use Rattle.faults.proofs.Failing.{unread_device, unread_other}
+use Rattle.merge_choices.specs.ChosenEntities.{choice_of}
+use Rattle.reports.proofs.Failing.{unread_device, unread_other}
 use Rattle.shrinking.specs.Shrinking.{Shrinks, written_to}
 use Rattle.shrinking.specs.declared.summary.Summary.{Summary}
 use Rattle.commands.proofs.FaultEndings.{device_ends, one_failed}

@@ -1,7 +1,7 @@
 use Rattle.std.proofs.Common.{Ok, Err, ◌∙◌, refl, inl, subst, sym}
 use Rattle.files.specs.Stores.{reader_seen}
 use Rattle.files.specs.declared.fault.Role.TheVariants as roles
-use Rattle.pin_choices.specs.Chosen.{choice_of}
+use Rattle.merge_choices.specs.ChosenEntities.{choice_of}
 use Rattle.verifying.specs.Sources.{VerifiesAll, given, no_schema}
 use Rattle.verifying.specs.declared.proof.Proof.{Proof}
 use Rattle.commands.proofs.FaultEndings.{device_ends, one_failed}

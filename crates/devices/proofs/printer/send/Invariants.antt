@@ -1,5 +1,5 @@
 use Rattle.std.proofs.Common.{◌≡◌, length, [], false}
-use Rattle.devices.specs.Prints.{Sends}
+use Rattle.devices.specs.steps.Prints.{Sends}
 use Rattle.devices.proofs.printer.send.Given as goal
 
 abbrev pub invariant-loop-rest : goal.invariant-loop-rest

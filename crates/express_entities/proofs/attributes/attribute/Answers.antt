@@ -2,9 +2,9 @@ use Rattle.std.proofs.Common.{[], ap, sym, ◌∙◌, refl}
 use Rattle.express_syntax.specs.Words.{name, word_of}
 use Rattle.express_syntax.specs.ExpressionViews.{capitals}
 use Rattle.express_syntax.specs.declared.keyword.Keyword.TheVariants as keywords
-use Rattle.express_runs.specs.Items.{located_of}
+use Rattle.express_token_runs.specs.steps.Items.{located_of}
 use Rattle.express_syntax.specs.Texts.{token}
-use Rattle.express_syntax.specs.Predict.{AnAttribute}
+use Rattle.express_syntax.specs.steps.Predict.{AnAttribute}
 use Rattle.express_syntax.proofs.Looking.{keyword_met, stops_refused}
 use Rattle.express_syntax.proofs.Taking.{passes_token}
 use Rattle.express_entities.proofs.AttributeSteps.{own_attribute, attribute_refused}

@@ -1,6 +1,6 @@
 use Rattle.std.proofs.Common.{[], ◌∷◌, ◌++◌, ◌≡◌, map, sym, ap, ◌∙◌, refl}
 use Rattle.std.proofs.lemmas.Result.{err_from_is_err_and}
-use Rattle.express_runs.specs.Items.{located_of}
+use Rattle.express_token_runs.specs.steps.Items.{located_of}
 use Rattle.express_syntax.specs.Views.{attribute_of}
 use Rattle.express_entities.proofs.AttributeSteps.{lists_first, lists_next, lists_stop, lists_end, listed_not_over, attribute_smaller}
 use Rattle.express_entities.proofs.attributes.attributes.Goals as goal

@@ -1,9 +1,9 @@
 use Rattle.std.proofs.Common.{length, map}
-use Rattle.express_lexis.specs.Reading.{left}
-use Rattle.express_runs.specs.Items.{located_of}
+use Rattle.express_lexer.specs.Reading.{left}
+use Rattle.express_token_runs.specs.steps.Items.{located_of}
 use Rattle.express_syntax.specs.Views.{attribute_of}
-use Rattle.express_syntax.specs.Predict.{Symbol}
-use Rattle.express_entities.specs.Lists.{IsListed, ListsOn}
+use Rattle.express_syntax.specs.steps.Predict.{Symbol}
+use Rattle.express_entities.specs.steps.Lists.{IsListed, ListsOn}
 use Rattle.express_entities.proofs.attributes.attributes.Given as goal
 
 abbrev pub invariant-loop-list : goal.invariant-loop-list

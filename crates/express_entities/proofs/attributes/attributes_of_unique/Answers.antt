@@ -1,8 +1,8 @@
 use Rattle.std.proofs.Common.{map, sym, ◌∙◌, refl}
 use Rattle.std.proofs.lemmas.Result.{err_from_is_err_and}
-use Rattle.express_runs.specs.Items.{located_of}
+use Rattle.express_token_runs.specs.steps.Items.{located_of}
 use Rattle.express_syntax.specs.Views.{attribute_of}
-use Rattle.express_syntax.specs.Predict.{Uniques}
+use Rattle.express_syntax.specs.steps.Predict.{Uniques}
 use Rattle.express_entities.proofs.AttributeSteps.{unique_refused, unique_on}
 use Rattle.express_entities.proofs.attributes.attributes_of_unique.Goals as goal
 

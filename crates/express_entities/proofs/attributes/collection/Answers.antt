@@ -3,11 +3,11 @@ use Rattle.std.proofs.lemmas.Result.{err_from_is_err_and}
 use Rattle.express_syntax.specs.declared.keyword.Keyword.TheVariants as keywords
 use Rattle.express_syntax.specs.Words.{name, word_of}
 use Rattle.express_syntax.specs.ExpressionViews.{capitals}
-use Rattle.express_runs.specs.Items.{located_of}
+use Rattle.express_token_runs.specs.steps.Items.{located_of}
 use Rattle.express_syntax.specs.Views.{if_some, bounds_of}
-use Rattle.express_syntax.specs.Written.{words_of_some_bounds}
+use Rattle.express_syntax.specs.WrittenSchemas.{words_of_some_bounds}
 use Rattle.express_syntax.specs.Texts.{token}
-use Rattle.express_syntax.specs.Predict.{Inverted}
+use Rattle.express_syntax.specs.steps.Predict.{Inverted}
 use Rattle.express_syntax.proofs.Looking.{keyword_met, stops_refused}
 use Rattle.express_syntax.proofs.Taking.{passes_token}
 use Rattle.express_entities.proofs.AttributeSteps.{grouped_passes, grouped_stops, grouped_stops_behind, collection_refused}

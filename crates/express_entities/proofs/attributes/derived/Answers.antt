@@ -1,10 +1,10 @@
 use Rattle.std.proofs.Common.{◌∙◌, [], ◌∷◌, ◌++◌, false}
 use Rattle.std.proofs.lemmas.Result.{err_from_is_err_and}
-use Rattle.express_lexis.specs.declared.marks.Mark.TheVariants as marks
+use Rattle.express_lexer.specs.declared.marks.Mark.TheVariants as marks
 use Rattle.express_syntax.specs.Words.{mark}
 use Rattle.express_syntax.specs.Views.{attribute_of, data_type_of, body_of}
-use Rattle.express_syntax.specs.Written.{words_of_attribute, words_of_data_type, words_of_body}
-use Rattle.express_syntax.specs.Predict.{DataTypeThen, assignment, Running, in_rule}
+use Rattle.express_syntax.specs.WrittenSchemas.{words_of_attribute, words_of_data_type, words_of_body}
+use Rattle.express_syntax.specs.steps.Predict.{DataTypeThen, assignment, Running, in_rule}
 use Rattle.express_syntax.proofs.Taking.{passes_then, stops_next}
 use Rattle.express_entities.proofs.AttributeSteps.{derived_words}
 use Rattle.express_syntax.proofs.SameText.{passes_text, kept}

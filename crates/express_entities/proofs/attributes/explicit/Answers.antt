@@ -1,12 +1,12 @@
 use Rattle.std.proofs.Common.{[], ◌∷◌, ◌++◌, map, sym, ◌∙◌, refl}
 use Rattle.std.proofs.lemmas.Result.{err_from_is_err_and}
-use Rattle.express_lexis.specs.declared.marks.Mark.TheVariants as marks
+use Rattle.express_lexer.specs.declared.marks.Mark.TheVariants as marks
 use Rattle.express_syntax.specs.declared.keyword.Keyword.TheVariants as keywords
 use Rattle.express_syntax.specs.Words.{mark}
-use Rattle.express_syntax.specs.Written.{said, words_of_data_type}
-use Rattle.express_runs.specs.Items.{located_of}
+use Rattle.express_syntax.specs.WrittenSchemas.{said, words_of_data_type}
+use Rattle.express_token_runs.specs.steps.Items.{located_of}
 use Rattle.express_syntax.specs.Views.{attribute_of, data_type_of}
-use Rattle.express_syntax.specs.Predict.{Explicits}
+use Rattle.express_syntax.specs.steps.Predict.{Explicits}
 use Rattle.express_syntax.proofs.Taking.{stops_first}
 use Rattle.express_entities.proofs.AttributeSteps.{explicit_refused, explicit_stop, explicit_passes, explicit_words}
 use Rattle.express_syntax.proofs.SameText.{passes_text, kept}

@@ -1,7 +1,7 @@
 use Rattle.std.proofs.Common.{sym, ◌∙◌, refl}
 use Rattle.std.proofs.lemmas.Result.{err_from_is_err_and}
 use Rattle.express_syntax.specs.ExpressionViews.{capitals}
-use Rattle.express_runs.specs.Items.{located_of}
+use Rattle.express_token_runs.specs.steps.Items.{located_of}
 use Rattle.express_entities.proofs.AttributeSteps.{holder_refused, holder_passes, holder_stops, holder_stops_behind, holder_none}
 use Rattle.express_entities.proofs.attributes.holder.Goals as goal
 

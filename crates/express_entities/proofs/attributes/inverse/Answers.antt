@@ -3,8 +3,8 @@ use Rattle.std.proofs.lemmas.Result.{err_from_is_err_and}
 use Rattle.express_syntax.specs.declared.keyword.Keyword.TheVariants as keywords
 use Rattle.express_syntax.specs.ExpressionViews.{capitals}
 use Rattle.express_syntax.specs.Views.{if_some, attribute_of, collection_of}
-use Rattle.express_syntax.specs.Written.{words_of_attribute, words_of_collection, words_of_holder}
-use Rattle.express_syntax.specs.Predict.{Inverted, Say, Id, Holder}
+use Rattle.express_syntax.specs.WrittenSchemas.{words_of_attribute, words_of_collection, words_of_holder}
+use Rattle.express_syntax.specs.steps.Predict.{Inverted, Say, Id, Holder}
 use Rattle.express_syntax.proofs.Taking.{passes_then, stops_next}
 use Rattle.express_entities.proofs.AttributeSteps.{inverse_words}
 use Rattle.express_syntax.proofs.SameText.{passes_text, kept}

@@ -1,10 +1,10 @@
 use Rattle.std.proofs.Common.{[], ◌∷◌, ◌++◌, sym, ◌∙◌}
 use Rattle.std.proofs.lemmas.Result.{err_from_is_err_and}
-use Rattle.express_lexis.specs.declared.marks.Mark.TheVariants as marks
+use Rattle.express_lexer.specs.declared.marks.Mark.TheVariants as marks
 use Rattle.express_syntax.specs.Words.{mark}
-use Rattle.express_runs.specs.Items.{located_of}
+use Rattle.express_token_runs.specs.steps.Items.{located_of}
 use Rattle.express_syntax.specs.Views.{data_type_of}
-use Rattle.express_syntax.specs.Written.{words_of_data_type}
+use Rattle.express_syntax.specs.WrittenSchemas.{words_of_data_type}
 use Rattle.express_entities.proofs.AttributeSteps.{optional_passes, optional_stops, data_type_passes, data_type_stops}
 use Rattle.express_syntax.proofs.SameText.{shows_text, kept}
 use Rattle.express_syntax.specs.Sources.{IsDataTypeOf}

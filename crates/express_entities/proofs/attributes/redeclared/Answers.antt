@@ -1,7 +1,7 @@
 use Rattle.std.proofs.Common.{[], ◌∷◌, refl}
 use Rattle.std.proofs.lemmas.Result.{err_from_is_err_and}
-use Rattle.express_lexis.specs.declared.marks.Mark.TheVariants as marks
-use Rattle.express_syntax.specs.Predict.{Just, Id}
+use Rattle.express_lexer.specs.declared.marks.Mark.TheVariants as marks
+use Rattle.express_syntax.specs.steps.Predict.{Just, Id}
 use Rattle.express_syntax.proofs.Taking.{passes_then, stops_next}
 use Rattle.express_entities.proofs.attributes.redeclared.Goals as goal
 

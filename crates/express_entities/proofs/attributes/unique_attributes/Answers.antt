@@ -1,5 +1,5 @@
 use Rattle.std.proofs.Common.{map}
-use Rattle.express_runs.specs.Items.{located_of}
+use Rattle.express_token_runs.specs.steps.Items.{located_of}
 use Rattle.express_syntax.specs.Views.{attribute_of}
 use Rattle.express_entities.proofs.AttributeSteps.{unique_behind}
 use Rattle.express_entities.proofs.attributes.unique_attributes.Goals as goal

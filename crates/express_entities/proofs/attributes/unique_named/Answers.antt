@@ -1,7 +1,7 @@
 use Rattle.std.proofs.Common.{map, sym, ◌∙◌}
 use Rattle.std.proofs.lemmas.Result.{err_from_is_err_and}
 use Rattle.express_syntax.specs.ExpressionViews.{capitals}
-use Rattle.express_runs.specs.Items.{located_of}
+use Rattle.express_token_runs.specs.steps.Items.{located_of}
 use Rattle.express_syntax.specs.Views.{attribute_of}
 use Rattle.express_entities.proofs.AttributeSteps.{labelled_passes, labelled_stops, labelled_stops_behind, named_passes, named_stops}
 use Rattle.express_entities.proofs.attributes.unique_named.Goals as goal

@@ -3,9 +3,9 @@ use Rattle.std.proofs.lemmas.Result.{err_from_is_err_and}
 use Rattle.express_syntax.specs.Grammar.{depth_limit}
 use Rattle.express_entities.specs.declared.clauses.ClauseStart.TheVariants as starts
 use Rattle.express_syntax.specs.Views.{derived_of}
-use Rattle.express_syntax.specs.Written.{words_of_derived}
+use Rattle.express_syntax.specs.WrittenSchemas.{words_of_derived}
 use Rattle.express_syntax.specs.Profile.{FitsDerived}
-use Rattle.express_syntax.specs.Predict.{derived, behind_attribute}
+use Rattle.express_syntax.specs.steps.Predict.{derived, behind_attribute}
 use Rattle.express_entities.proofs.ClauseSteps.{begins_as, first_same, item_less, stand_push, stand_stops_front, stand_stops_item, stand_ended}
 use Rattle.express_syntax.proofs.SameText.{passes_text, kept}
 use Rattle.express_syntax.proofs.Lists.{every_push}

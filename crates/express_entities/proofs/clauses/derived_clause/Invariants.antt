@@ -1,12 +1,12 @@
 use Rattle.std.proofs.Common.{length, map}
-use Rattle.express_lexis.specs.Reading.{left}
+use Rattle.express_lexer.specs.Reading.{left}
 use Rattle.express_syntax.specs.Grammar.{depth_limit}
 use Rattle.express_syntax.specs.Views.{derived_of}
-use Rattle.express_syntax.specs.Written.{words_of_derived}
+use Rattle.express_syntax.specs.WrittenSchemas.{words_of_derived}
 use Rattle.express_syntax.specs.Profile.{Every, FitsDerived}
 use Rattle.express_syntax.specs.Sources.{IsDerivedOf}
-use Rattle.express_syntax.specs.Predict.{derived}
-use Rattle.express_entities.specs.EntityParts.{Stand}
+use Rattle.express_syntax.specs.steps.Predict.{derived}
+use Rattle.express_entities.specs.steps.EntityParts.{Stand}
 use Rattle.express_entities.proofs.clauses.derived_clause.Given as goal
 
 abbrev pub invariant-loop-list : goal.invariant-loop-list

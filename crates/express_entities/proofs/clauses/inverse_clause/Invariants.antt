@@ -1,12 +1,12 @@
 use Rattle.std.proofs.Common.{length, map}
-use Rattle.express_lexis.specs.Reading.{left}
+use Rattle.express_lexer.specs.Reading.{left}
 use Rattle.express_syntax.specs.Grammar.{depth_limit}
 use Rattle.express_syntax.specs.Views.{inverse_of}
-use Rattle.express_syntax.specs.Written.{words_of_inverse}
+use Rattle.express_syntax.specs.WrittenSchemas.{words_of_inverse}
 use Rattle.express_syntax.specs.Profile.{Every, FitsInverse}
 use Rattle.express_syntax.specs.Sources.{IsInverseOf}
-use Rattle.express_syntax.specs.Predict.{inverses}
-use Rattle.express_entities.specs.EntityParts.{Stand}
+use Rattle.express_syntax.specs.steps.Predict.{inverses}
+use Rattle.express_entities.specs.steps.EntityParts.{Stand}
 use Rattle.express_entities.proofs.clauses.inverse_clause.Given as goal
 
 abbrev pub invariant-loop-list : goal.invariant-loop-list

@@ -1,5 +1,5 @@
 use Rattle.std.proofs.Common.{[], ◌∷◌, refl}
-use Rattle.express_lexis.specs.declared.marks.Mark.TheVariants as marks
+use Rattle.express_lexer.specs.declared.marks.Mark.TheVariants as marks
 use Rattle.express_syntax.specs.Words.{mark}
 use Rattle.express_entities.proofs.ClauseSteps.{not_where}
 use Rattle.express_entities.proofs.clauses.some_rules.Goals as goal

@@ -1,10 +1,10 @@
 use Rattle.std.proofs.Common.{sym, ap, ◌∙◌}
 use Rattle.std.proofs.lemmas.Result.{err_from_is_err_and}
 use Rattle.express_syntax.specs.Words.{word_of}
-use Rattle.express_runs.specs.Items.{located_of}
+use Rattle.express_token_runs.specs.steps.Items.{located_of}
 use Rattle.express_syntax.specs.Texts.{token}
-use Rattle.express_syntax.specs.Predict.{Body}
-use Rattle.express_entities.specs.EntityParts.{clause_of}
+use Rattle.express_syntax.specs.steps.Predict.{Body}
+use Rattle.express_entities.specs.steps.EntityParts.{clause_of}
 use Rattle.express_syntax.proofs.Looking.{stops_refused}
 use Rattle.express_entities.proofs.ClauseSteps.{self_stops, self_done, name_begins, boundary_begins, keyword_stops, other_refused}
 use Rattle.express_entities.proofs.clauses.take_start.Goals as goal

@@ -2,10 +2,10 @@ use Rattle.std.proofs.Common.{map, refl}
 use Rattle.std.proofs.lemmas.Result.{err_from_is_err_and}
 use Rattle.express_entities.specs.declared.clauses.ClauseStart.TheVariants as starts
 use Rattle.express_syntax.specs.Views.{attribute_of, unique_of}
-use Rattle.express_syntax.specs.Written.{words_of_unique}
+use Rattle.express_syntax.specs.WrittenSchemas.{words_of_unique}
 use Rattle.express_syntax.specs.Profile.{FitsUnique}
-use Rattle.express_syntax.specs.Predict.{uniques}
-use Rattle.express_entities.specs.EntityParts.{behind_first}
+use Rattle.express_syntax.specs.steps.Predict.{uniques}
+use Rattle.express_entities.specs.steps.EntityParts.{behind_first}
 use Rattle.express_entities.proofs.ClauseSteps.{begins_as, item_less, stand_push, stand_stops_front, stand_stops_item, stand_ended}
 use Rattle.express_entities.proofs.clauses.unique_clause.Goals as goal
 

@@ -4,7 +4,7 @@ use Rattle.express_syntax.specs.ExpressionViews.{capitals}
 use Rattle.express_entities.proofs.EntitySteps.{entity_err_head, entity_err_clauses, entity_done}
 use Rattle.express_syntax.proofs.SameText.{passes_text, kept}
 use Rattle.express_syntax.specs.Sources.{IsSupertypeOf}
-use Rattle.express_entities.specs.EntityParts.{AreClausesOf}
+use Rattle.express_entities.specs.steps.EntityParts.{AreClausesOf}
 use Rattle.express_entities.proofs.entities.entity.Goals as goal
 
 pub returns-in_err-head-clause-read : goal.returns-in_err-head-clause-read

@@ -1,7 +1,7 @@
 use Rattle.std.proofs.Common.{◌≡◌, sym, ◌∙◌}
 use Rattle.std.proofs.lemmas.Result.{err_from_is_err_and}
-use Rattle.express_runs.specs.Items.{located_of}
-use Rattle.express_syntax.specs.Predict.{Super, EndOfText}
+use Rattle.express_token_runs.specs.steps.Items.{located_of}
+use Rattle.express_syntax.specs.steps.Predict.{Super, EndOfText}
 use Rattle.express_entities.proofs.EntitySteps.{answers_as, head_plain, head_err_plain, head_err_second, head_abstract, head_err_abstract}
 use Rattle.express_syntax.proofs.SameText.{shows_text, kept_ok}
 use Rattle.express_syntax.specs.Sources.{IsSupertypeOf}

@@ -1,6 +1,6 @@
 use Rattle.std.proofs.Common.{sym, ◌∙◌}
 use Rattle.std.proofs.lemmas.Result.{err_from_is_err_and}
-use Rattle.express_runs.specs.Items.{located_of}
+use Rattle.express_token_runs.specs.steps.Items.{located_of}
 use Rattle.express_syntax.specs.Views.{names_of}
 use Rattle.express_entities.proofs.EntitySteps.{sub_err_names, sub_err_semicolon, sub_done}
 use Rattle.express_entities.proofs.entities.subtype_of.Goals as goal

@@ -1,11 +1,11 @@
 use Rattle.std.proofs.Common.{◌≡◌, [], ◌∷◌, sym, ◌∙◌, refl}
 use Rattle.std.proofs.lemmas.Result.{err_from_is_err_and}
-use Rattle.express_lexis.specs.declared.marks.Mark.TheVariants as marks
+use Rattle.express_lexer.specs.declared.marks.Mark.TheVariants as marks
 use Rattle.express_syntax.specs.Words.{mark}
-use Rattle.express_runs.specs.Items.{located_of}
+use Rattle.express_token_runs.specs.steps.Items.{located_of}
 use Rattle.express_syntax.specs.Views.{if_some, names_of, supertype_of}
-use Rattle.express_syntax.specs.Written.{words_of_subtype}
-use Rattle.express_syntax.specs.Predict.{Sub, SuperOf, EndOfText}
+use Rattle.express_syntax.specs.WrittenSchemas.{words_of_subtype}
+use Rattle.express_syntax.specs.steps.Predict.{Sub, SuperOf, EndOfText}
 use Rattle.express_entities.proofs.EntitySteps.{super_err_unsaid, super_err_second, super_err_bare, super_bare, super_err_open, super_err_expression, super_err_behind, super_err_sub, super_done}
 use Rattle.express_syntax.proofs.SameText.{shows_text, passes_text, kept}
 use Rattle.express_syntax.specs.Sources.{IsSupertypeOf}

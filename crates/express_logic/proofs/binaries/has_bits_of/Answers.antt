@@ -1,8 +1,8 @@
 use Rattle.std.proofs.Common.{◌≡◌, suc, ◌+◌, length, drop, get_or, refl, sym, ap, ◌∙◌, arith}
 use Rattle.std.proofs.lemmas.Option.{slice_get-get_or}
 use Rattle.step_literals.specs.Bits.{bits_of}
-use Rattle.express_lexis.specs.Meanings as meanings
-use Rattle.express_logic.specs.Comparing.{same_bits}
+use Rattle.express_lexer.specs.Meanings as meanings
+use Rattle.express_logic.specs.Comparison.{same_bits}
 use Rattle.express_logic.proofs.Places.{Left, goes_on, differs, ends_early, ends}
 use Rattle.express_logic.proofs.binaries.has_bits_of.Goals as goal
 
@@ -13,7 +13,7 @@ returns-in_default c =
     let i = c.loop-index.index in
     ends_early bs ds i (get_or ds i 0) (sym c.bit.ensures ∙ c.in_default.is)
     (slice_get-get_or ds i 0 c.loop-index-test.true) ∙ c.loop-index.invariant
-    ∙ ap (λ l. same_bits bs (meanings.bits_of l))
+    ∙ ap (λ l. same_bits bs (meanings.written_bits l))
     (c.split_at.ensures.back ∙ ap (drop 1) (λ j. (c.spelling.ensures j).now))
 
 pub returns-then-bit-digits : goal.returns-then-bit-digits
@@ -23,7 +23,7 @@ returns-then-bit-digits c =
     let i = c.loop-index.index in
     differs bs ds i (get_or ds i 0) c.in-Some.bit (sym c.bit.ensures ∙ c.in-Some.is)
     (slice_get-get_or ds i 0 c.loop-index-test.true) c.if-bit-digits.true ∙ c.loop-index.invariant
-    ∙ ap (λ l. same_bits bs (meanings.bits_of l))
+    ∙ ap (λ l. same_bits bs (meanings.written_bits l))
     (c.split_at.ensures.back ∙ ap (drop 1) (λ j. (c.spelling.ensures j).now))
 
 pub loop-index-preserved : goal.loop-index-preserved
@@ -47,5 +47,5 @@ returns c =
     ) in
     ends bs ds (length ds) c.bit-2.result c.is_none.result refl c.bit-2.ensures c.is_none.ensures
     ∙ ap (Left bs ds) all ∙ c.loop-index.invariant
-    ∙ ap (λ l. same_bits bs (meanings.bits_of l))
+    ∙ ap (λ l. same_bits bs (meanings.written_bits l))
     (c.split_at.ensures.back ∙ ap (drop 1) (λ j. (c.spelling.ensures j).now))

@@ -1,6 +1,6 @@
 use Rattle.std.proofs.Common.{sym, ◌∙◌}
 use Rattle.step_literals.specs.Bits.{bits_of}
-use Rattle.express_logic.specs.Comparing.{same_bits}
+use Rattle.express_logic.specs.Comparison.{same_bits}
 use Rattle.express_logic.specs.Literals.{binary_bits}
 use Rattle.express_logic.specs.Views.{bits_of_any}
 use Rattle.express_logic.proofs.Places.{either_first}

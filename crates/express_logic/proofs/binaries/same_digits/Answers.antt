@@ -1,7 +1,7 @@
 use Rattle.std.proofs.Common.{◌≡◌, drop, refl, ap, ◌∙◌}
 use Rattle.std.specs.Bool.{beq}
 use Rattle.std.proofs.lemmas.Iterator.Consumers.{YieldsList-from_first}
-use Rattle.express_lexis.specs.Left.{bits_left}
+use Rattle.express_lexer.specs.steps.Left.{bits_left}
 use Rattle.express_logic.specs.Literals.{binary_bits}
 use Rattle.express_logic.proofs.Spelt.{binary_is}
 use Rattle.express_logic.proofs.Yielding.{eq_from_yields_list}

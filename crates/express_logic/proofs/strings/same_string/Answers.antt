@@ -1,7 +1,7 @@
 use Rattle.std.proofs.Common.{◌≡◌, ap, ◌∙◌}
 use Rattle.std.proofs.lemmas.Iterator.Consumers.{YieldsList-from_first}
-use Rattle.express_logic.specs.Comparing.{same_item}
-use Rattle.express_logic.specs.Left.{characters_left}
+use Rattle.express_logic.specs.Comparison.{same_item}
+use Rattle.express_logic.specs.steps.Left.{characters_left}
 use Rattle.express_logic.specs.Views.{text_of}
 use Rattle.express_logic.proofs.Yielding.{eq_from_yields_list, items_same}
 use Rattle.express_logic.proofs.strings.same_string.Goals as goal

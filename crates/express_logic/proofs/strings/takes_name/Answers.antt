@@ -1,5 +1,5 @@
 use Rattle.std.proofs.Common.{◌≡◌}
-use Rattle.express_logic.specs.Left.{characters_left}
+use Rattle.express_logic.specs.steps.Left.{characters_left}
 use Rattle.express_logic.proofs.Taken.{falls_short}
 use Rattle.express_logic.proofs.strings.takes_name.Goals as goal
 

@@ -1,7 +1,7 @@
 use Rattle.std.proofs.Common.{true, take}
 use Rattle.step_literals.specs.Words.{upper}
-use Rattle.express_logic.specs.Left.{characters_left}
-use Rattle.express_logic.specs.Taking.{Takes}
+use Rattle.express_logic.specs.steps.Left.{characters_left}
+use Rattle.express_logic.specs.steps.Taking.{Takes}
 use Rattle.express_logic.proofs.strings.takes_name.Given as goal
 
 -- the letters that were taken

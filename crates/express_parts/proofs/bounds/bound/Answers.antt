@@ -2,7 +2,7 @@ use Rattle.std.proofs.Common.{ap, ◌∙◌, subst, List}
 use Rattle.express_syntax.specs.Words.{Word, words_of}
 use Rattle.express_syntax.specs.Profile.{IsBoundText}
 use Rattle.express_syntax.specs.Views.{run_of, bound_of}
-use Rattle.express_runs.specs.OpenRuns.{part_of, may_of}
+use Rattle.express_token_runs.specs.steps.OpenRuns.{part_of, may_of}
 use Rattle.express_parts.proofs.BoundSteps.{bound_known, bound_other}
 use Rattle.express_parts.proofs.bounds.bound.Goals as goal
 

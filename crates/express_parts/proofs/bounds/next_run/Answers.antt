@@ -1,6 +1,6 @@
-use Rattle.express_runs.specs.Items.{located_of}
+use Rattle.express_token_runs.specs.steps.Items.{located_of}
 use Rattle.express_syntax.specs.Views.{run_of}
-use Rattle.express_runs.specs.OpenRuns.{part_of}
+use Rattle.express_token_runs.specs.steps.OpenRuns.{part_of}
 use Rattle.express_parts.proofs.BoundSteps.{run_of_gather}
 use Rattle.express_syntax.proofs.SameText.{shows_text, kept_ok}
 use Rattle.express_syntax.specs.Sources.{IsRunOf}

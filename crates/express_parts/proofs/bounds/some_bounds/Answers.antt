@@ -1,7 +1,7 @@
 use Rattle.std.proofs.Common.{rules, sym, ◌∙◌, ◌≤◌, ◌<◌}
 use Rattle.std.proofs.lemmas.Result.{err_from_is_err_and}
 use Rattle.express_syntax.specs.Grammar.{depth_limit}
-use Rattle.express_runs.specs.Items.{located_of}
+use Rattle.express_token_runs.specs.steps.Items.{located_of}
 use Rattle.express_syntax.specs.Views.{bounds_of}
 use Rattle.express_parts.proofs.BoundSteps.{no_bounds, some_bounds_err, some_bounds_deep, some_bounds_stop, some_bounds_done}
 use Rattle.express_syntax.proofs.SameText.{shows_text, kept}

@@ -1,6 +1,6 @@
 use Rattle.std.proofs.Common.{ap, ◌∙◌, subst, List}
 use Rattle.express_syntax.specs.Words.{Word, words_of}
-use Rattle.express_syntax.specs.Written.{words_of_expression}
+use Rattle.express_syntax.specs.WrittenSchemas.{words_of_expression}
 use Rattle.express_syntax.specs.Profile.{IsSupertypeText}
 use Rattle.express_syntax.specs.Views.{run_of, supertype_of}
 use Rattle.express_parts.proofs.BoundSteps.{supertype_known, supertype_other, IsKnown}

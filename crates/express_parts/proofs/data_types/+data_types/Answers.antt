@@ -3,12 +3,12 @@ use Rattle.std.proofs.Common.{rules, ◌<◌, ◌+◌, [], ◌∷◌, ◌++◌, 
 use Rattle.express_syntax.specs.declared.keyword.Keyword.TheVariants as keywords
 use Rattle.express_syntax.specs.Words.{keyword}
 use Rattle.express_syntax.specs.Grammar.{depth_limit}
-use Rattle.express_runs.specs.Items.{located_of}
+use Rattle.express_token_runs.specs.steps.Items.{located_of}
 use Rattle.express_syntax.specs.Texts.{token}
 use Rattle.express_syntax.specs.Views.{data_type_of, bounds_of, if_some}
-use Rattle.express_syntax.specs.Written.{said, words_of_some_bounds}
-use Rattle.express_parts.specs.Endings.{ending_of}
-use Rattle.express_syntax.specs.Predict.{BoundsOrOf, UniqueOr, DataTypeThen}
+use Rattle.express_syntax.specs.WrittenSchemas.{said, words_of_some_bounds}
+use Rattle.express_parts.specs.steps.Endings.{ending_of}
+use Rattle.express_syntax.specs.steps.Predict.{BoundsOrOf, UniqueOr, DataTypeThen}
 use Rattle.express_parts.proofs.DataTypeSteps.{data_type_behind_or, data_type_stopped, last_aggregate, array_symbols, next_array, next_list, next_bag, next_set, bag_done, set_done, array_bounds, array_stopped, array_done, bounded_stopped, collection_done, list_done, begins_or, unique_said, unique_unsaid_stopped, optional_stopped, optional_said, optional_unsaid_stopped, optional_unsaid}
 use Rattle.express_syntax.proofs.SameText.{shows_text, passes_text, kept, kept_ok}
 use Rattle.express_syntax.specs.Sources.{IsBoundsOf, IsDataTypeOf}

@@ -1,8 +1,8 @@
 use Rattle.std.proofs.Common.{◌∷◌, [], subst, MatchResult}
-use Rattle.express_lexis.specs.declared.marks.Mark.{Mark}
+use Rattle.express_lexer.specs.declared.marks.Mark.{Mark}
 use Rattle.express_syntax.specs.Words.{mark}
-use Rattle.express_syntax.specs.Predict.{Just}
-use Rattle.express_syntax.specs.Steps.{Passes, StopsIn}
+use Rattle.express_syntax.specs.steps.Predict.{Just}
+use Rattle.express_syntax.specs.steps.Steps.{Passes, StopsIn}
 use Rattle.express_parts.proofs.data_types.expect_end.Goals as goal
 
 pub returns : goal.returns

@@ -1,7 +1,7 @@
 use Rattle.std.proofs.lemmas.Result.{err_from_is_err_and}
 use Rattle.std.proofs.Common.{sym, ◌∙◌}
-use Rattle.express_runs.specs.Items.{located_of}
-use Rattle.express_parts.specs.Endings.{ending_of}
+use Rattle.express_token_runs.specs.steps.Items.{located_of}
+use Rattle.express_parts.specs.steps.Endings.{ending_of}
 use Rattle.express_parts.proofs.DataTypeSteps.{fixed_stopped, fixed_said, fixed_refused, fixed_unsaid}
 use Rattle.express_parts.proofs.data_types.fixed.Goals as goal
 

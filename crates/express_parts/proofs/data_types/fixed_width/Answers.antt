@@ -1,8 +1,8 @@
 use Rattle.std.proofs.lemmas.Result.{err_from_is_err_and}
 use Rattle.std.proofs.Common.{[], ◌∷◌, refl}
-use Rattle.express_parts.specs.Endings.{ending_of}
+use Rattle.express_parts.specs.steps.Endings.{ending_of}
 use Rattle.express_syntax.specs.Views.{width_of}
-use Rattle.express_syntax.specs.Predict.{FixedWidthOr, FixedOr}
+use Rattle.express_syntax.specs.steps.Predict.{FixedWidthOr, FixedOr}
 use Rattle.express_parts.proofs.DataTypeSteps.{stops_left, fixed_some}
 use Rattle.express_parts.proofs.data_types.fixed_width.Goals as goal
 

@@ -1,6 +1,6 @@
 use Rattle.std.proofs.Common.{ap, ◌∙◌}
-use Rattle.express_runs.specs.Items.{located_of}
-use Rattle.express_syntax.specs.Predict.{is_mark}
+use Rattle.express_token_runs.specs.steps.Items.{located_of}
+use Rattle.express_syntax.specs.steps.Predict.{is_mark}
 use Rattle.express_parts.proofs.data_types.is_end.Goals as goal
 
 pub returns : goal.returns

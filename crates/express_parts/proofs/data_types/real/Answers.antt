@@ -1,8 +1,8 @@
 use Rattle.std.proofs.lemmas.Result.{err_from_is_err_and}
 use Rattle.std.proofs.Common.{[], ◌∷◌, refl}
-use Rattle.express_parts.specs.Endings.{ending_of}
+use Rattle.express_parts.specs.steps.Endings.{ending_of}
 use Rattle.express_syntax.specs.Views.{width_of}
-use Rattle.express_syntax.specs.Predict.{Just, WidthOr, ending_mark}
+use Rattle.express_syntax.specs.steps.Predict.{Just, WidthOr, ending_mark}
 use Rattle.express_parts.proofs.DataTypeSteps.{stops_left, real_none, real_some}
 use Rattle.express_parts.proofs.data_types.real.Goals as goal
 

@@ -1,11 +1,11 @@
 use Rattle.std.proofs.Common.{[], ◌∷◌, ap, ◌∙◌, refl}
 use Rattle.express_syntax.specs.declared.keyword.Keyword.TheVariants as keywords
 use Rattle.express_syntax.specs.Words.{keyword}
-use Rattle.express_runs.specs.Items.{located_of}
+use Rattle.express_token_runs.specs.steps.Items.{located_of}
 use Rattle.express_syntax.specs.Texts.{token}
 use Rattle.express_syntax.specs.Views.{data_type_of}
-use Rattle.express_parts.specs.Endings.{ending_of}
-use Rattle.express_syntax.specs.Predict.{WidthOr}
+use Rattle.express_parts.specs.steps.Endings.{ending_of}
+use Rattle.express_syntax.specs.steps.Predict.{WidthOr}
 use Rattle.express_parts.proofs.DataTypeSteps.{data_type_behind_or}
 use Rattle.express_parts.proofs.DataTypeSources.{integer_of, number_of, boolean_of, logical_of, string_of, binary_of}
 use Rattle.express_parts.proofs.data_types.simple.Goals as goal

@@ -1,8 +1,8 @@
 use Rattle.std.proofs.lemmas.Result.{err_from_is_err_and}
 use Rattle.std.proofs.Common.{sym, ◌∙◌, ◌≤◌, ◌<◌, rules}
 use Rattle.express_syntax.specs.Grammar.{depth_limit}
-use Rattle.express_runs.specs.Items.{located_of}
-use Rattle.express_parts.specs.Endings.{ending_of}
+use Rattle.express_token_runs.specs.steps.Items.{located_of}
+use Rattle.express_parts.specs.steps.Endings.{ending_of}
 use Rattle.express_syntax.specs.Views.{width_of}
 use Rattle.express_parts.proofs.DataTypeSteps.{not_over, width_deep, width_stopped, width_some, width_refused, width_none}
 use Rattle.express_syntax.proofs.SameText.{shows_text, kept}

@@ -1,4 +1,4 @@
-use Rattle.express_runs.specs.Items.{located_of}
+use Rattle.express_token_runs.specs.steps.Items.{located_of}
 use Rattle.express_parts.proofs.RuleSteps.{body_done}
 use Rattle.express_syntax.proofs.SameText.{shows_text, kept_ok}
 use Rattle.express_syntax.specs.Sources.{IsBodyOf}

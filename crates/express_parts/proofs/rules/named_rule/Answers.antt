@@ -1,8 +1,8 @@
 use Rattle.std.proofs.Common.{sym, ◌∙◌, ◌≡◌}
 use Rattle.std.proofs.lemmas.Result.{err_from_is_err_and}
 use Rattle.express_syntax.specs.Words.{word_of}
-use Rattle.express_runs.specs.Items.{located_of}
-use Rattle.express_syntax.specs.Predict.{Labelled, EndOfText, in_rule}
+use Rattle.express_token_runs.specs.steps.Items.{located_of}
+use Rattle.express_syntax.specs.steps.Predict.{Labelled, EndOfText, in_rule}
 use Rattle.express_syntax.specs.Views.{body_of}
 use Rattle.express_parts.proofs.RuleSteps.{behind_name, behind_label, labelled_read, second_read, second_stops}
 use Rattle.express_syntax.proofs.SameText.{shows_text, kept}

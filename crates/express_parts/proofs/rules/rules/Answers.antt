@@ -1,9 +1,9 @@
 use Rattle.std.proofs.Common.{sym, ap, ◌∙◌, ◌≡◌, [], ◌∷◌, ◌++◌}
 use Rattle.std.proofs.lemmas.Result.{err_from_is_err_and}
 use Rattle.express_syntax.specs.Words.{word_of}
-use Rattle.express_runs.specs.Items.{located_of}
+use Rattle.express_token_runs.specs.steps.Items.{located_of}
 use Rattle.express_syntax.specs.Views.{rule_of, rules_of}
-use Rattle.express_syntax.specs.Predict.{Rules, EndOfText}
+use Rattle.express_syntax.specs.steps.Predict.{Rules, EndOfText}
 use Rattle.express_parts.proofs.RuleSteps.{rules_next, rules_err_first, rules_err_rule, rules_err_end, rules_done, rules_smaller}
 use Rattle.express_syntax.proofs.SameText.{passes_text, shows_text, kept}
 use Rattle.express_syntax.specs.Sources.{IsRuleOf}

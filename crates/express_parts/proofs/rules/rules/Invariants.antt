@@ -1,5 +1,5 @@
 use Rattle.std.proofs.Common.{length}
-use Rattle.express_lexis.specs.Reading.{left}
+use Rattle.express_lexer.specs.Reading.{left}
 use Rattle.express_syntax.specs.Views.{rules_of}
 use Rattle.express_syntax.specs.Profile.{Every}
 use Rattle.express_syntax.specs.Sources.{IsRuleOf}

@@ -1,8 +1,8 @@
 use Rattle.std.proofs.Common.{sym, subst}
-use Rattle.step_equal.specs.Maps as maps
-use Rattle.step_equal.specs.Standard.{IsStandard}
-use Rattle.row_shapes.specs.Signatures.{AreSignatures}
-use Rattle.step_pins.specs.Pinned.{is_pinned}
+use Rattle.value_equality.specs.Maps as maps
+use Rattle.value_equality.specs.Standard.{IsStandard}
+use Rattle.row_signatures.specs.steps.Signatures.{AreSignatures}
+use Rattle.population_pins.specs.PopulationPins.{is_pinned}
 use Rattle.merge_tables.proofs.tables.standard_table.Goals as goal
 
 pub refine_by-requires : goal.refine_by-requires

@@ -1,6 +1,6 @@
 use Rattle.std.proofs.Common.{subst}
-use Rattle.step_equal.specs.Maps as maps
-use Rattle.row_shapes.specs.Signatures.{AreSignatures}
+use Rattle.value_equality.specs.Maps as maps
+use Rattle.row_signatures.specs.steps.Signatures.{AreSignatures}
 use Rattle.merge_tables.proofs.tables.standard_tables.Goals as goal
 
 pub tables_by-requires-clause-signatures : goal.tables_by-requires-clause-signatures

@@ -1,8 +1,8 @@
 use Rattle.std.proofs.Common.{sym, subst}
-use Rattle.step_equal.specs.Standard.{IsStandard}
-use Rattle.step_equal.specs.TableViews.{table_of}
-use Rattle.step_pins.specs.Pinned.{is_pinned}
-use Rattle.row_shapes.proofs.MorePins.{signatures_under_more}
+use Rattle.value_equality.specs.Standard.{IsStandard}
+use Rattle.value_equality.specs.TableViews.{table_of}
+use Rattle.population_pins.specs.PopulationPins.{is_pinned}
+use Rattle.row_signatures.proofs.MorePins.{signatures_under_more}
 use Rattle.merge_tables.proofs.Last.{standard-last}
 use Rattle.merge_tables.proofs.tables.tables_by.Goals as goal
 

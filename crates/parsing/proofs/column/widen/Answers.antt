@@ -1,6 +1,6 @@
 use Rattle.std.proofs.Common.{◌≡◌, ◌+◌, ◌-◌, ◌++◌, length, take, drop, replicate, sym, ap, ◌∙◌, subst, arith, rules, take_all}
 use Rattle.std.proofs.lemmas.List.{length-replicate, with_items_is}
-use Rattle.parsing.specs.Gaps.{Frees}
+use Rattle.parsing.specs.steps.Gaps.{Frees}
 use Rattle.parsing.proofs.Buffers.{widened}
 use Rattle.parsing.proofs.column.widen.Goals as goal
 

@@ -1,7 +1,7 @@
 use Rattle.std.proofs.Common.{◌<◌, ◌-◌, ◌∙◌, sym, ap, length, map, get_or, None, Some, arith}
 use Rattle.std.proofs.lemmas.List.{length-map, length-replicate, length-set}
 use Rattle.population_rows.specs.Index.{dense_at, told}
-use Rattle.population_rows.specs.Noting.{earlier}
+use Rattle.population_rows.specs.steps.Noting.{earlier}
 use Rattle.population_rows.proofs.Noted.{noted-more, dense-more, told-none}
 use Rattle.population_rows.proofs.index.dense_rows.Goals as goal
 

@@ -1,14 +1,14 @@
 use Rattle.std.proofs.Common.{◌≡◌, ◌∙◌, ◌∷◌, [], ◌++◌, ◌+◌, ◌<◌, not, cond, length, take, slice_get, slice_index_or, Some, ap, sym, subst}
 use Rattle.std.proofs.lemmas.Option.{slice_get-get_or}
 use Rattle.schema_names.specs.Schemas.{the_schema}
-use Rattle.schema_rules.specs.declared.finding.RuleFindingKind.TheVariants.{InverseBound}
-use Rattle.population_typed.specs.Seen.{population_seen}
-use Rattle.population_typed.proofs.Found.{every-at}
-use Rattle.population_typed.proofs.Turns.{got}
-use Rattle.step_extent.specs.Findings.{Adds}
-use Rattle.population_uniqueness.specs.Bounds.{breach, breach_in, breaches_at}
-use Rattle.step_extent.proofs.Adding.{adds-none, adds-one, adds-more}
-use Rattle.step_extent.proofs.Held.{flat-next}
+use Rattle.schema_constraints.specs.declared.finding.RuleFindingKind.TheVariants.{InverseBound}
+use Rattle.typed_populations.specs.PopulationViews.{population_seen}
+use Rattle.typed_populations.proofs.Found.{every-at}
+use Rattle.typed_populations.proofs.Turns.{got}
+use Rattle.population_inverses.specs.steps.Findings.{Adds}
+use Rattle.population_uniqueness.specs.steps.Bounds.{breach, breach_in, breaches_at}
+use Rattle.population_inverses.proofs.Adding.{adds-none, adds-one, adds-more}
+use Rattle.population_inverses.proofs.Held.{flat-next}
 use Rattle.population_uniqueness.proofs.inverses.add_broken.Goals as goal
 use Rattle.population_uniqueness.proofs.inverses.add_broken.Goals.{then-not-keeps+in_ok-push, else-not-keeps}
 

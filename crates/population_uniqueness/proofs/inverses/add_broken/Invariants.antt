@@ -1,9 +1,9 @@
 use Rattle.std.proofs.Common.{take}
 use Rattle.schema_names.specs.Schemas.{the_schema}
-use Rattle.schema_rules.specs.declared.finding.RuleFindingKind.TheVariants.{InverseBound}
-use Rattle.population_typed.specs.Seen.{population_seen}
-use Rattle.step_extent.specs.Findings.{Adds}
-use Rattle.population_uniqueness.specs.Bounds.{breaches_at}
+use Rattle.schema_constraints.specs.declared.finding.RuleFindingKind.TheVariants.{InverseBound}
+use Rattle.typed_populations.specs.PopulationViews.{population_seen}
+use Rattle.population_inverses.specs.steps.Findings.{Adds}
+use Rattle.population_uniqueness.specs.steps.Bounds.{breaches_at}
 use Rattle.population_uniqueness.proofs.inverses.add_broken.Given as goal
 
 abbrev pub invariant-loop-number : goal.invariant-loop-number

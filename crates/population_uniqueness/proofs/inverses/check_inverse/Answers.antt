@@ -2,18 +2,18 @@ use Rattle.std.proofs.Common.{◌≡◌, ◌∙◌, [], ◌++◌, ◌<◌, lengt
 use Rattle.express_syntax.specs.Profile.{Every}
 use Rattle.conformance.specs.RuleFindings.{breaches_of_inverse}
 use Rattle.schema_names.specs.Schemas.{the_schema}
-use Rattle.schema_rules.specs.declared.finding.RuleFindingKind.TheVariants.{InverseBound}
-use Rattle.schema_rules.specs.Seen.{rules_seen}
-use Rattle.population_typed.specs.Rows.{instance_seen}
-use Rattle.population_typed.specs.Seen.{population_seen}
-use Rattle.population_typed.specs.Whole.{form_among}
-use Rattle.population_typed.proofs.Found.{kept}
-use Rattle.step_extent.specs.Findings.{Adds}
-use Rattle.step_extent.specs.Inverses.{numbers_by, row_by}
-use Rattle.population_uniqueness.specs.Bounds.{breaches_at}
-use Rattle.step_extent.proofs.Adding.{adds-more}
+use Rattle.schema_constraints.specs.declared.finding.RuleFindingKind.TheVariants.{InverseBound}
+use Rattle.schema_constraints.specs.RuleViews.{rules_seen}
+use Rattle.typed_populations.specs.Rows.{instance_seen}
+use Rattle.typed_populations.specs.PopulationViews.{population_seen}
+use Rattle.typed_populations.specs.PopulationTables.{form_among}
+use Rattle.typed_populations.proofs.Found.{kept}
+use Rattle.population_inverses.specs.steps.Findings.{Adds}
+use Rattle.population_inverses.specs.steps.Inverses.{numbers_by, row_by}
+use Rattle.population_uniqueness.specs.steps.Bounds.{breaches_at}
+use Rattle.population_inverses.proofs.Adding.{adds-more}
 use Rattle.population_uniqueness.proofs.Broken.{told-of, breaches-are, row-within}
-use Rattle.step_extent.proofs.Held.{flat-next}
+use Rattle.population_inverses.proofs.Held.{flat-next}
 use Rattle.population_uniqueness.proofs.inverses.check_inverse.Goals as goal
 
 pub add_broken-requires-clause-within : goal.add_broken-requires-clause-within

@@ -1,6 +1,6 @@
 use Rattle.std.proofs.Common.{◌∙◌, subst}
 use Rattle.std.specs.Prelude.{IfSome}
-use Rattle.form_positions.specs.Positions.{ArePositions}
+use Rattle.population_rows.specs.steps.Positions.{ArePositions}
 use Rattle.population_uniqueness.proofs.positions.position_in.Goals as goal
 
 pub returns-in-Some : goal.returns-in-Some

@@ -1,5 +1,5 @@
 use Rattle.std.proofs.Common.{◌≡◌, map, take}
-use Rattle.population_uniqueness.specs.Positions.{numbers_in, positions_by}
+use Rattle.population_uniqueness.specs.steps.Positions.{numbers_in, positions_by}
 use Rattle.population_uniqueness.proofs.positions.positions_by_form.Given as goal
 
 abbrev pub invariant-loop-form : goal.invariant-loop-form

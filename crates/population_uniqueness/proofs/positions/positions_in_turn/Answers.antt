@@ -1,5 +1,5 @@
 use Rattle.std.proofs.Common.{◌≡◌, ◌+◌, sym, subst, drop, arith}
-use Rattle.population_uniqueness.specs.Positions.{positions_of}
+use Rattle.population_uniqueness.specs.steps.Positions.{positions_of}
 use Rattle.population_uniqueness.proofs.Behind.{behind}
 use Rattle.population_uniqueness.proofs.Positioned.{position_more, position_missing, positions_all}
 use Rattle.population_uniqueness.proofs.positions.positions_in_turn.Goals as goal

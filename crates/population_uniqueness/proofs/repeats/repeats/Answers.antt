@@ -1,11 +1,11 @@
 use Rattle.std.proofs.Common.{ℕ, List, ◌≡◌, ◌+◌, ◌∷◌, [], ◌++◌, ◌∙◌, map, option_copied, sym, subst, ap, arith}
 use Rattle.conformance.specs.RuleFindings.{key}
-use Rattle.schema_rules.specs.Seen.{unique_seen}
-use Rattle.population_typed.specs.Seen.{population_seen}
-use Rattle.population_typed.proofs.Found.{schema_seen}
-use Rattle.population_uniqueness.specs.Parts.{parts_by}
-use Rattle.population_uniqueness.specs.Positions.{numbers_in, positions_by, positions_among}
-use Rattle.population_uniqueness.specs.Keys.{Meets}
+use Rattle.schema_constraints.specs.RuleViews.{unique_seen}
+use Rattle.typed_populations.specs.PopulationViews.{population_seen}
+use Rattle.typed_populations.proofs.Found.{schema_seen}
+use Rattle.population_uniqueness.specs.steps.Parts.{parts_by}
+use Rattle.population_uniqueness.specs.steps.Positions.{numbers_in, positions_by, positions_among}
+use Rattle.population_uniqueness.specs.steps.Keys.{Meets}
 use Rattle.population_uniqueness.proofs.ByRow.{instance, stands, name_is, key_by_form}
 use Rattle.population_uniqueness.proofs.Telling.{TellsUpTo, tells_first, tells_more, tells_as_before, tells_all}
 use Rattle.population_uniqueness.proofs.repeats.repeats.Goals as goal

@@ -1,6 +1,6 @@
 use Rattle.schema_names.specs.Schemas.{the_schema}
-use Rattle.schema_rules.specs.Seen.{unique_seen}
-use Rattle.population_typed.specs.Seen.{population_seen}
+use Rattle.schema_constraints.specs.RuleViews.{unique_seen}
+use Rattle.typed_populations.specs.PopulationViews.{population_seen}
 use Rattle.population_uniqueness.proofs.Telling.{TellsUpTo}
 use Rattle.population_uniqueness.proofs.repeats.repeats.Given as goal
 

@@ -1,11 +1,11 @@
 use Rattle.std.proofs.Common.{ℕ, ◌∷◌, [], ◌∙◌, map, take, ap, sym, subst, refl, slice_index_or}
 use Rattle.std.proofs.lemmas.Option.{slice_get-get_or}
-use Rattle.schema_rules.specs.declared.finding.RuleFindingKind.TheVariants.{UniqueBroken}
+use Rattle.schema_constraints.specs.declared.finding.RuleFindingKind.TheVariants.{UniqueBroken}
 use Rattle.conformance.specs.RuleFindings.{Breach}
 use Rattle.schema_names.proofs.Rows.{map-joined}
-use Rattle.step_extent.specs.Findings.{Adds}
-use Rattle.step_extent.proofs.Adding.{adds-one, adds-more}
-use Rattle.step_extent.proofs.Held.{take-next}
+use Rattle.population_inverses.specs.steps.Findings.{Adds}
+use Rattle.population_inverses.proofs.Adding.{adds-one, adds-more}
+use Rattle.population_inverses.proofs.Held.{take-next}
 use Rattle.population_uniqueness.proofs.uniques.add_findings.Goals as goal
 
 pub loop-name-preserved : goal.loop-name-preserved

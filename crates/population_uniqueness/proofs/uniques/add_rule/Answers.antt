@@ -2,12 +2,12 @@ use Rattle.std.proofs.Common.{◌≡◌, ◌∙◌, [], ℕ, cond, map, ap, sym,
 use Rattle.conformance.specs.Populations.{Instance}
 use Rattle.conformance.specs.RuleFindings.{Breach, repeats, breaches_of_unique}
 use Rattle.schema_names.specs.Schemas.{the_schema}
-use Rattle.schema_rules.specs.declared.finding.RuleFindingKind.TheVariants.{UniqueBroken}
-use Rattle.schema_rules.specs.Seen.{unique_seen}
-use Rattle.population_typed.specs.Seen.{population_seen}
-use Rattle.population_typed.proofs.Turns.{on-ok}
-use Rattle.step_extent.specs.Findings.{Adds}
-use Rattle.step_extent.proofs.Adding.{map-twice}
+use Rattle.schema_constraints.specs.declared.finding.RuleFindingKind.TheVariants.{UniqueBroken}
+use Rattle.schema_constraints.specs.RuleViews.{unique_seen}
+use Rattle.typed_populations.specs.PopulationViews.{population_seen}
+use Rattle.typed_populations.proofs.Turns.{on-ok}
+use Rattle.population_inverses.specs.steps.Findings.{Adds}
+use Rattle.population_inverses.proofs.Adding.{map-twice}
 use Rattle.population_uniqueness.proofs.uniques.add_rule.Goals as goal
 
 pub returns : goal.returns

@@ -2,11 +2,11 @@ use Rattle.std.proofs.Common.{◌≡◌, ◌∙◌, [], map, take, flat_map, sli
 use Rattle.std.proofs.lemmas.Option.{slice_get-get_or}
 use Rattle.conformance.specs.RuleFindings.{breaches_of_unique}
 use Rattle.schema_names.specs.Schemas.{the_schema}
-use Rattle.schema_rules.specs.declared.finding.RuleFindingKind.TheVariants.{UniqueBroken}
-use Rattle.schema_rules.specs.Seen.{unique_seen}
-use Rattle.population_typed.specs.Seen.{population_seen}
-use Rattle.step_extent.specs.Findings.{Adds}
-use Rattle.step_extent.proofs.Adding.{adds-more, flat-mapped}
+use Rattle.schema_constraints.specs.declared.finding.RuleFindingKind.TheVariants.{UniqueBroken}
+use Rattle.schema_constraints.specs.RuleViews.{unique_seen}
+use Rattle.typed_populations.specs.PopulationViews.{population_seen}
+use Rattle.population_inverses.specs.steps.Findings.{Adds}
+use Rattle.population_inverses.proofs.Adding.{adds-more, flat-mapped}
 use Rattle.population_uniqueness.proofs.uniques.check_unique.Goals as goal
 
 pub loop-rule-preserved : goal.loop-rule-preserved

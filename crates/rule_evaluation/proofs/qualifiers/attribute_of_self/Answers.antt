@@ -5,7 +5,7 @@ use Rattle.conformance.specs.Operations.{bare}
 use Rattle.express_logic.specs.Views.{datum_of}
 use Rattle.rule_values.specs.Parts.{holding, element_datum}
 use Rattle.rule_settings.specs.Settings.{below_rank}
-use Rattle.rule_evaluation.specs.Contexts.{setting_in, worth_in, instance_of}
+use Rattle.rule_evaluation.specs.steps.Contexts.{setting_in, worth_in, instance_of}
 use Rattle.rule_evaluation.proofs.qualifiers.attribute_of_self.Goals as goal
 
 pub returns-in-Instance-clause-worth : goal.returns-in-Instance-clause-worth

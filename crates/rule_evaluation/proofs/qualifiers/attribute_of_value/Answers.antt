@@ -4,7 +4,7 @@ use Rattle.express_logic.specs.Views.{datum_of}
 use Rattle.conformance.specs.Expressions.{instance_attribute}
 use Rattle.conformance.specs.Operations.{bare}
 use Rattle.rule_values.specs.Parts.{holding}
-use Rattle.rule_evaluation.specs.Contexts.{setting_in, worth_in, instance_of}
+use Rattle.rule_evaluation.specs.steps.Contexts.{setting_in, worth_in, instance_of}
 use Rattle.rule_evaluation.proofs.qualifiers.attribute_of_value.Goals as goal
 
 pub returns-clause-worth : goal.returns-clause-worth

@@ -1,7 +1,7 @@
 use Rattle.std.proofs.Common.{ap, sym}
 use Rattle.conformance.specs.Operations.{bare}
 use Rattle.rule_values.specs.Parts.{element_datum}
-use Rattle.rule_evaluation.specs.Contexts.{instance_of}
+use Rattle.rule_evaluation.specs.steps.Contexts.{instance_of}
 use Rattle.rule_evaluation.proofs.qualifiers.self_instance.Goals as goal
 
 pub returns-in-Instance : goal.returns-in-Instance

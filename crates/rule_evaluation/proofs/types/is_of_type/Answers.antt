@@ -5,7 +5,7 @@ use Rattle.express_logic.specs.Logic.{known}
 use Rattle.express_logic.specs.Views.{datum_of, text_of}
 use Rattle.conformance.specs.Expressions.{is_of_type}
 use Rattle.rule_values.specs.Parts.{holding}
-use Rattle.rule_evaluation.specs.Contexts.{setting_in}
+use Rattle.rule_evaluation.specs.steps.Contexts.{setting_in}
 use Rattle.rule_evaluation.proofs.types.is_of_type.Goals as goal
 
 pub returns-in-Instance : goal.returns-in-Instance

@@ -4,7 +4,7 @@ use Rattle.express_syntax.specs.ExpressionViews.{tree_of}
 use Rattle.conformance.specs.Expressions.{means}
 use Rattle.rule_values.specs.declared.element.Element.TheVariants as elements
 use Rattle.rule_values.specs.Parts.{element_datum}
-use Rattle.rule_values.specs.Scopes.{variables_of}
+use Rattle.rule_values.specs.steps.Scopes.{variables_of}
 use Rattle.rule_settings.specs.Settings.{setting_by, below_rank}
 use Rattle.rule_evaluation.proofs.values.formula_value.Goals as goal
 

@@ -1,5 +1,5 @@
 use Rattle.rule_settings.specs.Settings.{Meant}
-use Rattle.rule_evaluation.specs.Kept.{AreRight}
+use Rattle.rule_evaluation.specs.steps.Kept.{AreRight}
 use Rattle.rule_evaluation.proofs.values.keep_all.Given as goal
 
 abbrev pub invariant-loop : goal.invariant-loop

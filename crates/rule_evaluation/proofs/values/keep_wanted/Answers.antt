@@ -2,8 +2,8 @@ use Rattle.std.proofs.Common.{◌≡◌, ap, sym, ◌∙◌}
 use Rattle.std.specs.Prelude.{Some}
 use Rattle.std.specs.Option.{option_map}
 use Rattle.std.proofs.lemmas.Result.{on_ok_weaker}
-use Rattle.schema_derivations.specs.Formulas.{formula_seen}
-use Rattle.rule_evaluation.specs.Worths.{formula_worth}
+use Rattle.schema_derived_attributes.specs.Formulas.{formula_seen}
+use Rattle.rule_evaluation.specs.steps.Worths.{formula_worth}
 use Rattle.rule_evaluation.proofs.values.keep_wanted.Goals as goal
 
 pub returns-in-Ok : goal.returns-in-Ok

@@ -3,10 +3,10 @@ use Rattle.express_syntax.specs.Profile.{Every}
 use Rattle.express_syntax.specs.ExpressionViews.{tree_of}
 use Rattle.conformance.specs.Expressions.{means}
 use Rattle.rule_values.specs.Parts.{element_datum}
-use Rattle.rule_values.specs.Scopes.{variables_of}
+use Rattle.rule_values.specs.steps.Scopes.{variables_of}
 use Rattle.rule_settings.specs.Settings.{setting_by, below_rank}
-use Rattle.rule_evaluation.specs.Kept.{IsRight}
-use Rattle.rule_evaluation.specs.Worths.{worth_at}
+use Rattle.rule_evaluation.specs.steps.Kept.{IsRight}
+use Rattle.rule_evaluation.specs.steps.Worths.{worth_at}
 use Rattle.rule_evaluation.proofs.values.value_at.Goals as goal
 
 pub loop-init : goal.loop-init

@@ -2,14 +2,14 @@ use Rattle.std.proofs.Common.{◌≡◌, ◌∙◌, ◌&&◌, true, false, ap, s
 use Rattle.express_syntax.specs.ExpressionViews.{capitals}
 use Rattle.express_syntax.specs.Views.{declaration_of}
 use Rattle.express_syntax.specs.SchemaViews.{schema_of}
-use Rattle.conformance.specs.Fitting.{among}
-use Rattle.schema_bases.specs.Seen as seen
+use Rattle.conformance.specs.ParameterFits.{is_listed}
+use Rattle.schema_underlying_types.specs.BaseViews as seen
 use Rattle.schema_names.specs.Schemas.{the_schema}
-use Rattle.schema_bases.specs.Seen.{name_at, base_seen}
-use Rattle.schema_bases.specs.Tables.{IsNumbered}
+use Rattle.schema_underlying_types.specs.BaseViews.{name_at, base_seen}
+use Rattle.schema_underlying_types.specs.Tables.{IsNumberedBase}
 use Rattle.conformance.specs.Meanings.{type_names, items_in}
 use Rattle.schema_names.proofs.Items.{mapped-at}
-use Rattle.schema_sources.proofs.Reading.{tree-within}
+use Rattle.schema_attribute_sources.proofs.Reading.{tree-within}
 use Rattle.rule_names.proofs.Enumerations.{no_type, type_told, no_items, both_told}
 use Rattle.rule_names.proofs.items.is_item_of.Goals as goal
 
@@ -20,7 +20,7 @@ declaration-requires c =
 pub returns-in_default : goal.returns-in_default
 returns-in_default c d is =
     let t = capitals c.args.declared in
-    ap (λ b. b && among (capitals c.args.name) (items_in (d.of_name t)))
+    ap (λ b. b && is_listed (capitals c.args.name) (items_in (d.of_name t)))
     (no_type (the_schema c.args.names.now) c.requires.resolved t c.in_default.ensures)
 
 pub returns-then-not-is_type : goal.returns-then-not-is_type
@@ -30,7 +30,7 @@ returns-then-not-is_type c d is =
     let t = capitals c.args.declared in
     let x = declaration_of c.declaration.result.now in
     let at = mapped-at declaration_of tree.declarations.items c.in-Some.number c.declaration.result.now c.declaration.ensures in
-    ap (λ b. b && among (capitals c.args.name) (items_in (d.of_name t)))
+    ap (λ b. b && is_listed (capitals c.args.name) (items_in (d.of_name t)))
     (sym c.if-not-is_type.true ∙ c.is_type.ensures
     ∙ type_told s c.requires.resolved t c.in-Some.number (sym c.in-Some.ensures) x at)
 
@@ -39,7 +39,7 @@ declaration-requires-in-Enumeration c =
     let tree = c.args.names.now.schema.now in
     let s = schema_of tree in
     tree-within tree (name_at s c.in-Enumeration.enumeration) c.in-Enumeration.enumeration
-    (subst (IsNumbered s) (sym c.in-Enumeration.ensures) (c.requires.tables.named (capitals c.args.declared)))
+    (subst (IsNumberedBase s) (sym c.in-Enumeration.ensures) (c.requires.tables.named (capitals c.args.declared)))
 
 pub returns-in-Enumeration : goal.returns-in-Enumeration
 returns-in-Enumeration c d is =
@@ -53,11 +53,11 @@ returns-in-Enumeration c d is =
     let there =
     mapped-at declaration_of tree.declarations.items c.in-Enumeration.enumeration
     c.declaration-in-Enumeration.result.now c.declaration-in-Enumeration.ensures in
-    let one : true ≡ among t (type_names s) =
+    let one : true ≡ is_listed t (type_names s) =
     sym c.if-not-is_type.false ∙ c.is_type.ensures ∙ type_told s c.requires.resolved t i (sym c.in-Some.ensures) x at in
-    let two : c.is_among.result ≡ among n (items_in (d.of_name t)) =
-    c.is_among.ensures ∙ ap (among n) (c.items_in.ensures ∙ sym (ap seen.items_in there))
-    ∙ ap (λ b. among n (items_in b))
+    let two : c.is_among.result ≡ is_listed n (items_in (d.of_name t)) =
+    c.is_among.ensures ∙ ap (is_listed n) (c.items_in.ensures ∙ sym (ap seen.items_in there))
+    ∙ ap (λ b. is_listed n (items_in b))
     (ap (base_seen s) c.in-Enumeration.ensures ∙ c.requires.tables.by_name d is t i (sym c.in-Some.ensures)) in
     both_told one two
 
@@ -70,10 +70,10 @@ returns-in_default-base_of c d is =
     let i = c.in-Some.number in
     let x = declaration_of c.declaration.result.now in
     let at = mapped-at declaration_of tree.declarations.items i c.declaration.result.now c.declaration.ensures in
-    let one : true ≡ among t (type_names s) =
+    let one : true ≡ is_listed t (type_names s) =
     sym c.if-not-is_type.false ∙ c.is_type.ensures ∙ type_told s c.requires.resolved t i (sym c.in-Some.ensures) x at in
-    let two : false ≡ among n (items_in (d.of_name t)) =
-    ap (among n) (no_items s c.base_of.result c.in_default-base_of.not-Enumeration)
-    ∙ ap (λ b. among n (items_in b))
+    let two : false ≡ is_listed n (items_in (d.of_name t)) =
+    ap (is_listed n) (no_items s c.base_of.result c.in_default-base_of.not-Enumeration)
+    ∙ ap (λ b. is_listed n (items_in b))
     (ap (base_seen s) c.base_of.ensures ∙ c.requires.tables.by_name d is t i (sym c.in-Some.ensures)) in
     both_told one two

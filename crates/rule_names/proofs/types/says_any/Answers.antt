@@ -1,9 +1,9 @@
 use Rattle.std.proofs.Common.{ℕ, ◌∙◌, sym}
 use Rattle.schema_names.specs.Numbers.{HasNumber}
 use Rattle.schema_names.specs.Schemas.{the_schema}
-use Rattle.schema_bases.specs.Seen.{name_at}
+use Rattle.schema_underlying_types.specs.BaseViews.{name_at}
 use Rattle.express_logic.specs.Views.{text_of}
-use Rattle.schema_sources.proofs.Members.{every_get}
+use Rattle.schema_attribute_sources.proofs.Members.{every_get}
 use Rattle.rule_names.proofs.Saying.{none_more, one_more, none_left}
 use Rattle.rule_names.proofs.types.says_any.Goals as goal
 

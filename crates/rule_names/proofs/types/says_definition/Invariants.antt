@@ -5,7 +5,7 @@ use Rattle.schema_semantics.specs.Names.{Name, IsOrLeads, Renames}
 use Rattle.schema_names.specs.Numbers.{HasNumber}
 use Rattle.schema_names.specs.Schemas.{the_schema}
 use Rattle.express_logic.specs.Views.{text_of}
-use Rattle.rule_names.specs.Naming.{says_one}
+use Rattle.rule_names.specs.steps.Naming.{says_one}
 use Rattle.rule_names.proofs.types.says_definition.Given as goal
 
 -- what is left decides

@@ -2,10 +2,10 @@ use Rattle.std.proofs.Common.{◌≡◌, ◌∙◌, Some, None, ap}
 use Rattle.express_syntax.specs.ExpressionViews.{capitals}
 use Rattle.express_syntax.specs.SchemaViews.{schema_of}
 use Rattle.schema_names.specs.Schemas.{the_schema}
-use Rattle.schema_bases.specs.Seen.{name_at}
+use Rattle.schema_underlying_types.specs.BaseViews.{name_at}
 use Rattle.express_logic.specs.Views.{text_of}
 use Rattle.conformance.specs.Meanings.{says_type}
-use Rattle.schema_sources.proofs.Reading.{tree-within}
+use Rattle.schema_attribute_sources.proofs.Reading.{tree-within}
 use Rattle.rule_names.proofs.Saying.{called, one_name}
 use Rattle.rule_names.proofs.types.says_type.Goals as goal
 

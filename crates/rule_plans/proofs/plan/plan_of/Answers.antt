@@ -1,8 +1,8 @@
 use Rattle.std.proofs.Common.{◌∙◌, ap, sym, subst, map}
 use Rattle.rule_settings.specs.Settings.{schema_in}
-use Rattle.rule_plans.specs.Applying.{numbers_by}
-use Rattle.rule_plans.specs.Renamings.{AreRenamings}
-use Rattle.rule_plans.specs.Unsought.{AreTables}
+use Rattle.rule_plans.specs.steps.Applying.{numbers_by}
+use Rattle.rule_plans.specs.steps.Renamings.{AreRenamings}
+use Rattle.rule_plans.specs.steps.Unsought.{AreTables}
 use Rattle.rule_plans.proofs.plan.plan_of.Goals as goal
 
 pub forest_of-requires-clause-edges : goal.forest_of-requires-clause-edges

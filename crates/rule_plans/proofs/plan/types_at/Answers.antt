@@ -1,9 +1,9 @@
 use Rattle.std.proofs.Common.{◌∙◌, sym, subst, map, []}
 use Rattle.std.proofs.lemmas.Result.{IfOk-weaker}
-use Rattle.rule_plans.specs.Speaking.{TypesTell}
-use Rattle.rule_plans.specs.Unsought.{AreRight, IsRight}
+use Rattle.rule_plans.specs.steps.Speaking.{TypesTell}
+use Rattle.rule_plans.specs.steps.Unsought.{AreRight, IsRight}
 use Rattle.rule_plans.proofs.Passing.{tables-right, table-right}
-use Rattle.rule_plans.specs.Planning.{TellAll}
+use Rattle.rule_plans.specs.steps.Planning.{TellAll}
 use Rattle.rule_plans.proofs.Covering.{tell-none, tell-all, union-covers}
 use Rattle.rule_plans.proofs.plan.types_at.Goals as goal
 

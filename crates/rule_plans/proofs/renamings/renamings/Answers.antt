@@ -1,11 +1,11 @@
 use Rattle.std.proofs.Common.{◌≡◌, ◌<◌, ◌+◌, ◌∙◌, ℕ, List, length, map, ap, sym, arith}
 use Rattle.std.proofs.lemmas.List.{length-map, length_push}
-use Rattle.digraph.proofs.RowLists.{rows-more}
+use Rattle.graphs.proofs.RowLists.{rows-more}
 use Rattle.express_syntax.specs.Views.{declaration_of}
 use Rattle.schema_names.specs.Schemas.{the_schema}
-use Rattle.schema_sources.specs.Defined.{renamed_at}
-use Rattle.schema_sources.proofs.Reading.{as-many}
-use Rattle.rule_plans.specs.Renamings.{as_row}
+use Rattle.schema_attribute_sources.specs.steps.Defined.{renamed_at}
+use Rattle.schema_attribute_sources.proofs.Reading.{as-many}
+use Rattle.rule_plans.specs.steps.Renamings.{as_row}
 use Rattle.rule_plans.proofs.renamings.renamings.Goals as goal
 
 pub loop-number-preserved : goal.loop-number-preserved

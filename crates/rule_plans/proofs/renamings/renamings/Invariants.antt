@@ -1,8 +1,8 @@
 use Rattle.std.proofs.Common.{◌≡◌, ◌<◌, ℕ, length, map}
-use Rattle.digraph.specs.Graphs.{next}
+use Rattle.graphs.specs.Graphs.{next}
 use Rattle.schema_names.specs.Schemas.{the_schema}
-use Rattle.schema_sources.specs.Defined.{renamed_at}
-use Rattle.rule_plans.specs.Renamings.{as_row}
+use Rattle.schema_attribute_sources.specs.steps.Defined.{renamed_at}
+use Rattle.rule_plans.specs.steps.Renamings.{as_row}
 use Rattle.rule_plans.proofs.renamings.renamings.Given as goal
 
 abbrev pub invariant-loop-number : goal.invariant-loop-number

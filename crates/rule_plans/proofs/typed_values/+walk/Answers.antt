@@ -1,10 +1,10 @@
 use Rattle.std.proofs.Common.{◌≡◌, ◌+◌, ◌++◌, ◌∙◌, ap, sym, subst, arith}
 use Rattle.std.proofs.lemmas.Result.{on_ok_weaker}
-use Rattle.step_values.specs.Slots.{node_value}
+use Rattle.step_values.specs.steps.Slots.{node_value}
 use Rattle.step_values.proofs.Walks.{after}
 use Rattle.step_values.proofs.Weights.{weight_of, lighter}
-use Rattle.rule_plans.specs.Coded.{coded_itself, coded_values, coded_each, coded_inside}
-use Rattle.rule_plans.specs.Seeking.{Adds}
+use Rattle.rule_plans.specs.steps.Coded.{coded_itself, coded_values, coded_each, coded_inside}
+use Rattle.rule_plans.specs.steps.Seeking.{Adds}
 use Rattle.rule_plans.proofs.Adding.{adds-both, starts, next, ends}
 use Rattle.rule_plans.proofs.Walking.{whole-value, each-next, each-ends}
 use Rattle.rule_plans.proofs.typed_values.+walk.Goals as goal

@@ -1,8 +1,8 @@
 use Rattle.std.proofs.Common.{suc}
-use Rattle.step_values.specs.Slots.{node_value}
+use Rattle.step_values.specs.steps.Slots.{node_value}
 use Rattle.step_values.proofs.Walks.{after}
 use Rattle.step_values.proofs.Weights.{weight, weight_of}
-use Rattle.rule_plans.specs.Coded.{coded_each}
+use Rattle.rule_plans.specs.steps.Coded.{coded_each}
 use Rattle.rule_plans.proofs.Adding.{AddsUpTo}
 use Rattle.rule_plans.proofs.typed_values.+walk.Given as goal
 

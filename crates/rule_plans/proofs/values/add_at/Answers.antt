@@ -1,7 +1,7 @@
 use Rattle.std.proofs.Common.{ap, subst}
 use Rattle.std.proofs.lemmas.Result.{on_ok_weaker}
-use Rattle.rule_plans.specs.Coded.{coded_at}
-use Rattle.rule_plans.specs.Seeking.{Adds}
+use Rattle.rule_plans.specs.steps.Coded.{coded_at}
+use Rattle.rule_plans.specs.steps.Seeking.{Adds}
 use Rattle.rule_plans.proofs.Adding.{adds-nothing}
 use Rattle.rule_plans.proofs.values.add_at.Goals as goal
 

@@ -1,10 +1,10 @@
 use Rattle.std.proofs.Common.{sym, subst}
 use Rattle.std.proofs.lemmas.List.{take_more}
-use Rattle.step_values.specs.Slots.{nth}
-use Rattle.schema_uses.specs.Uses.{of_place}
-use Rattle.schema_bases.specs.Making.{entry}
-use Rattle.rule_plans.specs.Coded.{coded_uses}
-use Rattle.rule_plans.specs.Seeking.{Adds}
+use Rattle.step_values.specs.steps.Slots.{nth}
+use Rattle.schema_redeclarations.specs.Uses.{of_place}
+use Rattle.schema_underlying_types.specs.BaseEntries.{entry}
+use Rattle.rule_plans.specs.steps.Coded.{coded_uses}
+use Rattle.rule_plans.specs.steps.Seeking.{Adds}
 use Rattle.rule_plans.proofs.Adding.{adds-both, adds-nothing}
 use Rattle.rule_plans.proofs.Walking.{type-next}
 use Rattle.rule_plans.proofs.values.add_place.Goals as goal

@@ -1,9 +1,9 @@
 use Rattle.std.proofs.Common.{take}
-use Rattle.step_values.specs.Slots.{nth}
-use Rattle.schema_bases.specs.Making.{entry}
-use Rattle.population_layouts.specs.Slots.{uses_by}
-use Rattle.rule_plans.specs.Coded.{coded_uses}
-use Rattle.rule_plans.specs.Seeking.{Adds}
+use Rattle.step_values.specs.steps.Slots.{nth}
+use Rattle.schema_underlying_types.specs.BaseEntries.{entry}
+use Rattle.population_forms.specs.steps.Slots.{uses_by}
+use Rattle.rule_plans.specs.steps.Coded.{coded_uses}
+use Rattle.rule_plans.specs.steps.Seeking.{Adds}
 use Rattle.rule_plans.proofs.values.add_place.Given as goal
 
 abbrev pub invariant-loop-i : goal.invariant-loop-i

@@ -1,8 +1,8 @@
 use Rattle.std.proofs.Common.{◌∙◌, sym, subst}
-use Rattle.step_values.specs.Slots.{nth}
-use Rattle.rule_plans.specs.Coded.{is_wanted}
-use Rattle.rule_plans.specs.Flat.{is_flat_at}
-use Rattle.rule_plans.specs.Seeking.{Adds}
+use Rattle.step_values.specs.steps.Slots.{nth}
+use Rattle.rule_plans.specs.steps.Coded.{is_wanted}
+use Rattle.rule_plans.specs.steps.Flat.{is_flat_at}
+use Rattle.rule_plans.specs.steps.Seeking.{Adds}
 use Rattle.rule_plans.proofs.Adding.{adds-nothing}
 use Rattle.rule_plans.proofs.Passing.{first-of, second-of, place-none}
 use Rattle.rule_plans.proofs.values.add_slot.Goals as goal

@@ -1,8 +1,8 @@
 use Rattle.std.proofs.Common.{◌+◌, get_or, drop}
 use Rattle.std.proofs.lemmas.Option.{slice_get-get_or}
-use Rattle.step_values.specs.Slots.{nth}
+use Rattle.step_values.specs.steps.Slots.{nth}
 use Rattle.step_values.proofs.Walks.{after}
-use Rattle.rule_plans.specs.Coded.{coded_place, coded_slots}
+use Rattle.rule_plans.specs.steps.Coded.{coded_place, coded_slots}
 use Rattle.rule_plans.proofs.Adding.{starts, next, ends}
 use Rattle.rule_plans.proofs.Walking.{slot-next, slots-end}
 use Rattle.rule_plans.proofs.values.add_slots.Goals as goal

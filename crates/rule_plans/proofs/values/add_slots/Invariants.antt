@@ -1,6 +1,6 @@
 use Rattle.std.proofs.Common.{drop}
 use Rattle.step_values.proofs.Walks.{after}
-use Rattle.rule_plans.specs.Coded.{coded_slots}
+use Rattle.rule_plans.specs.steps.Coded.{coded_slots}
 use Rattle.rule_plans.proofs.Adding.{AddsUpTo}
 use Rattle.rule_plans.proofs.values.add_slots.Given as goal
 

@@ -1,8 +1,8 @@
 use Rattle.std.proofs.Common.{◌∙◌, ap, sym, subst}
 use Rattle.std.proofs.lemmas.Result.{on_ok_weaker}
-use Rattle.step_values.specs.Slots.{nth}
-use Rattle.rule_plans.specs.Coded.{coded_at}
-use Rattle.rule_plans.specs.Seeking.{Adds}
+use Rattle.step_values.specs.steps.Slots.{nth}
+use Rattle.rule_plans.specs.steps.Coded.{coded_at}
+use Rattle.rule_plans.specs.steps.Seeking.{Adds}
 use Rattle.rule_plans.proofs.Adding.{adds-nothing}
 use Rattle.rule_plans.proofs.Walking.{use-there, use-elsewhere}
 use Rattle.rule_plans.proofs.values.add_use.Goals as goal

@@ -1,7 +1,7 @@
 use Rattle.std.proofs.Common.{sym, subst}
 use Rattle.std.proofs.lemmas.List.{take_more}
-use Rattle.step_values.specs.Slots.{nth}
-use Rattle.rule_plans.specs.Seeking.{Adds}
+use Rattle.step_values.specs.steps.Slots.{nth}
+use Rattle.rule_plans.specs.steps.Seeking.{Adds}
 use Rattle.rule_plans.proofs.Adding.{adds-both, adds-nothing}
 use Rattle.rule_plans.proofs.Walking.{use-next}
 use Rattle.rule_plans.proofs.values.add_uses.Goals as goal

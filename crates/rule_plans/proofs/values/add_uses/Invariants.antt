@@ -1,8 +1,8 @@
 use Rattle.std.proofs.Common.{take}
-use Rattle.step_values.specs.Slots.{nth}
-use Rattle.schema_uses.specs.Uses.{of_place}
-use Rattle.rule_plans.specs.Coded.{coded_uses}
-use Rattle.rule_plans.specs.Seeking.{Adds}
+use Rattle.step_values.specs.steps.Slots.{nth}
+use Rattle.schema_redeclarations.specs.Uses.{of_place}
+use Rattle.rule_plans.specs.steps.Coded.{coded_uses}
+use Rattle.rule_plans.specs.steps.Seeking.{Adds}
 use Rattle.rule_plans.proofs.values.add_uses.Given as goal
 
 abbrev pub invariant-loop-i : goal.invariant-loop-i

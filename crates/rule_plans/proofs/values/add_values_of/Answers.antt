@@ -5,22 +5,22 @@ use Rattle.std.proofs.lemmas.Result.{on_ok_weaker}
 use Rattle.express_syntax.specs.Profile.{Every}
 use Rattle.schema_semantics.specs.Names.{Name}
 use Rattle.schema_semantics.proofs.Lists.{every-at}
-use Rattle.schema_places.proofs.Distinct.{at-among}
+use Rattle.schema_explicit_attributes.proofs.Distinct.{at-among}
 use Rattle.schema_data_types.specs.declared.forms.Form.{Form}
 use Rattle.conformance.specs.Populations.{Instance}
 use Rattle.conformance.specs.Conforming.{Conforms, typing_of}
-use Rattle.population_typed.specs.Rows.{instance_seen}
-use Rattle.population_typed.specs.Whole.{form_among, types_by_form, AreNumbered}
-use Rattle.step_extent.proofs.Held.{numbers-of}
+use Rattle.typed_populations.specs.Rows.{instance_seen}
+use Rattle.typed_populations.specs.PopulationTables.{form_among, types_by_form, AreNumbered}
+use Rattle.population_inverses.proofs.Held.{numbers-of}
 use Rattle.express_logic.specs.Data.{Datum}
 use Rattle.rule_settings.specs.Settings.{schema_in, population_in}
 use Rattle.rule_names.specs.Tables.{AreDeclared}
-use Rattle.rule_plans.specs.declared.sought.Seeker.{Seeker}
+use Rattle.rule_plans.specs.declared.value_search.Seeker.{Seeker}
 use Rattle.rule_plans.specs.declared.values.Asked.{Asked}
-use Rattle.rule_plans.specs.Coded.{wanted_in, Told, told_by, coded_slots, slots_in}
-use Rattle.rule_plans.specs.Seeking.{IsSeeker, IsDeclared, those, worth}
-use Rattle.rule_plans.specs.Speaking.{is_of, values_of}
-use Rattle.rule_plans.specs.Unsought.{AreUnsought}
+use Rattle.rule_plans.specs.steps.Coded.{wanted_in, Told, told_by, coded_slots, slots_in}
+use Rattle.rule_plans.specs.steps.Seeking.{IsSeeker, IsDeclared, those, worth}
+use Rattle.rule_plans.specs.steps.Speaking.{is_of, values_of}
+use Rattle.rule_plans.specs.steps.Unsought.{AreUnsought}
 use Rattle.rule_plans.proofs.Passing.{alike}
 use Rattle.rule_plans.proofs.Placing.{instance-same, one-instance}
 use Rattle.rule_plans.proofs.Sifting.{told, those-joined, exactly-one, those-of-one}

@@ -1,15 +1,15 @@
 use Rattle.std.proofs.Common.{◌≡◌, ◌∙◌, ap, sym, subst, ℕ, List}
-use Rattle.digraph.specs.Graphs.{has}
-use Rattle.digraph.proofs.Found.{has-turned}
+use Rattle.graphs.specs.Graphs.{has}
+use Rattle.graphs.proofs.Found.{has-turned}
 use Rattle.express_syntax.specs.Profile.{Every}
-use Rattle.conformance.specs.Fitting.{among}
+use Rattle.conformance.specs.ParameterFits.{is_listed}
 use Rattle.conformance.specs.Populations.{Instance}
 use Rattle.schema_names.specs.Schemas.{the_schema}
-use Rattle.schema_bases.specs.Seen.{name_at}
-use Rattle.population_typed.specs.Rows.{instance_seen}
-use Rattle.population_typed.specs.Seen.{population_seen}
-use Rattle.population_typed.specs.Whole.{form_among, types_by_form, AreNumbered}
-use Rattle.step_extent.proofs.Held.{numbers-of}
+use Rattle.schema_underlying_types.specs.BaseViews.{name_at}
+use Rattle.typed_populations.specs.Rows.{instance_seen}
+use Rattle.typed_populations.specs.PopulationViews.{population_seen}
+use Rattle.typed_populations.specs.PopulationTables.{form_among, types_by_form, AreNumbered}
+use Rattle.population_inverses.proofs.Held.{numbers-of}
 use Rattle.rule_plans.proofs.Placing.{one-instance, is-of-entity}
 use Rattle.rule_plans.proofs.values.is_of_entity.Goals as goal
 
@@ -24,7 +24,7 @@ returns c x at =
     let y = instance_seen s r.name h.section o r.values in
     let numbers = numbers-of s p.rows.forms.items r.form
     (subst (Every (AreNumbered s)) c.forms.ensures.forms c.forms.ensures.numbered) in
-    subst (λ (z : Instance). c.contains.result ≡ among (name_at s i) z.types)
+    subst (λ (z : Instance). c.contains.result ≡ is_listed (name_at s i) z.types)
     (one-instance (population_seen p) c.args.row y x h.seen at)
     (c.contains.ensures.value ∙ has-turned c.types_at.result.now i
     ∙ ap (λ (l : List ℕ). has l i) (c.types_at.ensures ∙ ap (λ l. types_by_form (form_among l r.form)) c.forms.ensures.forms)

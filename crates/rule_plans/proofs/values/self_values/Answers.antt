@@ -1,5 +1,5 @@
 use Rattle.std.proofs.Common.{◌++◌, ◌∙◌, ap, map, refl}
-use Rattle.rule_plans.specs.Seeking.{those, told_in}
+use Rattle.rule_plans.specs.steps.Seeking.{those, told_in}
 use Rattle.rule_plans.proofs.Passing.{none-right}
 use Rattle.rule_plans.proofs.values.self_values.Goals as goal
 

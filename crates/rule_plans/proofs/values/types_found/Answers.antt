@@ -1,6 +1,6 @@
 use Rattle.std.proofs.Common.{◌||◌, ◌∙◌, ap, sym, map, refl}
-use Rattle.digraph.specs.Graphs.{has}
-use Rattle.rule_plans.specs.Seeking.{number}
+use Rattle.graphs.specs.Graphs.{has}
+use Rattle.rule_plans.specs.steps.Seeking.{number}
 use Rattle.rule_plans.proofs.Sifting.{none-pass}
 use Rattle.rule_plans.proofs.values.types_found.Goals as goal
 

@@ -1,5 +1,5 @@
 use Rattle.std.proofs.Common.{◌∙◌, ap, sym}
-use Rattle.rule_plans.specs.Unsought.{says_form}
+use Rattle.rule_plans.specs.steps.Unsought.{says_form}
 use Rattle.rule_plans.proofs.Forms.{no-value-there}
 use Rattle.rule_plans.proofs.values.value_types.Goals as goal
 

@@ -1,7 +1,7 @@
 use Rattle.std.proofs.Common.{sym, subst}
 use Rattle.express_syntax.proofs.Lists.{every_push}
 use Rattle.schema_names.specs.Schemas.{the_schema}
-use Rattle.schema_sources.specs.Seen.{inverses_seen}
+use Rattle.schema_attribute_sources.specs.SourceViews.{inverses_seen}
 use Rattle.rule_sources.specs.Sources.{IsNamedSource, AreNamedSources}
 use Rattle.rule_sources.proofs.sources.add_named.Goals as goal
 

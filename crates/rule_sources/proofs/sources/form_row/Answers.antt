@@ -1,5 +1,5 @@
 use Rattle.std.proofs.Common.{subst}
-use Rattle.form_positions.specs.Positions.{ArePositions}
+use Rattle.population_rows.specs.steps.Positions.{ArePositions}
 use Rattle.rule_sources.proofs.sources.form_row.Goals as goal
 
 pub named_sources-requires-clause-positions : goal.named_sources-requires-clause-positions

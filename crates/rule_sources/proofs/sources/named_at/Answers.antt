@@ -2,7 +2,7 @@ use Rattle.std.proofs.Common.{◌∙◌, Some, sym, subst}
 use Rattle.std.proofs.lemmas.Option.{slice_get-get_or}
 use Rattle.std.proofs.lemmas.Slice.Eq.{bytes_eq-Decides}
 use Rattle.express_syntax.specs.ExpressionViews.{capitals}
-use Rattle.population_typed.proofs.Found.{every-at}
+use Rattle.typed_populations.proofs.Found.{every-at}
 use Rattle.rule_sources.specs.Sources.{IsFormSource, IsNamedSource}
 use Rattle.rule_sources.proofs.sources.named_at.Goals as goal
 

@@ -1,7 +1,7 @@
 use Rattle.std.proofs.Common.{◌≡◌, ◌∙◌, ap, sym, subst}
 use Rattle.express_syntax.specs.ExpressionViews.{capitals}
 use Rattle.schema_names.specs.Schemas.{the_schema}
-use Rattle.schema_sources.specs.Seen.{inverses_seen}
+use Rattle.schema_attribute_sources.specs.SourceViews.{inverses_seen}
 use Rattle.rule_sources.specs.Sources.{IsSourceOf, source_in, form_source}
 use Rattle.rule_sources.proofs.Positions.{source-kept}
 use Rattle.rule_sources.proofs.sources.named_source.Goals as goal

@@ -1,5 +1,5 @@
 use Rattle.schema_names.specs.Schemas.{the_schema}
-use Rattle.schema_sources.specs.Seen.{inverses_seen}
+use Rattle.schema_attribute_sources.specs.SourceViews.{inverses_seen}
 use Rattle.rule_sources.specs.Sources.{AreNamedSources}
 use Rattle.rule_sources.proofs.sources.named_sources.Given as goal
 

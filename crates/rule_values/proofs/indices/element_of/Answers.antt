@@ -7,7 +7,7 @@ use Rattle.express_logic.specs.Holdings.{size_of}
 use Rattle.express_logic.specs.Literals.{whole_units}
 use Rattle.express_logic.specs.Views.{datum_of}
 use Rattle.conformance.specs.Operations.{first_index, element_from}
-use Rattle.rule_values.specs.Indices.{has_indices}
+use Rattle.rule_values.specs.steps.Indices.{has_indices}
 use Rattle.rule_values.specs.Parts.{holding}
 use Rattle.rule_values.proofs.Indexed.{unindexed, indexed-there, no-element}
 use Rattle.rule_values.proofs.indices.element_of.Goals as goal

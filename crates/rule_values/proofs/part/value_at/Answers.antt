@@ -1,6 +1,6 @@
 use Rattle.std.proofs.Common.{◌∙◌, ap, sym}
 use Rattle.std.specs.Option.{option_map}
-use Rattle.rule_values.specs.Coded.{coded_datum}
+use Rattle.rule_values.specs.TableValues.{coded_datum}
 use Rattle.rule_values.specs.Parts.{or_indeterminate, element_datum}
 use Rattle.rule_values.proofs.Elements.{nth-coded}
 use Rattle.rule_values.proofs.part.value_at.Goals as goal

@@ -3,7 +3,7 @@ use Rattle.std.specs.Prelude.{Some, if◌then◌else◌}
 use Rattle.express_syntax.specs.Views.{declaration_of}
 use Rattle.schema_names.specs.Numbers.{number_from}
 use Rattle.schema_names.specs.Schemas.{the_schema}
-use Rattle.rule_values.specs.Named.{names_entry}
+use Rattle.rule_values.specs.NamedValues.{names_entry}
 use Rattle.rule_values.proofs.Naming.{mapped-length, from-next}
 use Rattle.rule_values.proofs.types.numbers_of.Goals as goal
 

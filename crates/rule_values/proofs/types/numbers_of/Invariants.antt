@@ -2,7 +2,7 @@ use Rattle.std.proofs.Common.{◌≡◌, drop}
 use Rattle.schema_semantics.specs.Names.{Name}
 use Rattle.schema_names.specs.Numbers.{number_from}
 use Rattle.schema_names.specs.Schemas.{the_schema}
-use Rattle.rule_values.specs.Named.{found}
+use Rattle.rule_values.specs.NamedValues.{found}
 use Rattle.rule_values.proofs.types.numbers_of.Given as goal
 
 abbrev pub invariant-loop-i : goal.invariant-loop-i

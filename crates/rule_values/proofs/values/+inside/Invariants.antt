@@ -1,5 +1,5 @@
 use Rattle.std.proofs.Common.{suc}
-use Rattle.step_values.specs.Slots.{node_value}
+use Rattle.step_values.specs.steps.Slots.{node_value}
 use Rattle.step_values.proofs.Weights.{weight}
 use Rattle.rule_values.proofs.values.+inside.Given as goal
 

@@ -1,6 +1,6 @@
 use Rattle.std.proofs.Common.{◌∙◌, ap, sym}
-use Rattle.step_values.specs.Slots.{node_value}
-use Rattle.rule_values.specs.Coded.{coded_datum}
+use Rattle.step_values.specs.steps.Slots.{node_value}
+use Rattle.rule_values.specs.TableValues.{coded_datum}
 use Rattle.rule_values.proofs.values.node_datum.Goals as goal
 
 pub returns-in-Typed : goal.returns-in-Typed

@@ -2,8 +2,8 @@ use Rattle.std.proofs.Common.{subst, map, ◌++◌}
 use Rattle.std.proofs.lemmas.Result.{on_ok_weaker}
 use Rattle.express_syntax.specs.Views.{explicit_of, derived_of, inverse_of}
 use Rattle.schema_names.specs.Schemas.{the_schema}
-use Rattle.schema_data_types.specs.Numbered.{explicit_types, derived_types, inverse_types}
-use Rattle.schema_data_types.specs.Growing.{Adds}
+use Rattle.schema_data_types.specs.NumberedTypes.{explicit_types, derived_types, inverse_types}
+use Rattle.schema_data_types.specs.steps.Growing.{Adds}
 use Rattle.schema_names.proofs.Clauses.{clause-listed}
 use Rattle.schema_data_types.proofs.FormTables.{adds-joined}
 use Rattle.schema_data_types.proofs.forms.add_entity.Goals as goal

@@ -1,8 +1,8 @@
 use Rattle.std.proofs.Common.{map, take}
 use Rattle.express_syntax.specs.Views.{inverse_of}
 use Rattle.schema_names.specs.Schemas.{the_schema}
-use Rattle.schema_data_types.specs.Numbered.{inverse_types}
-use Rattle.schema_data_types.specs.Growing.{Adds}
+use Rattle.schema_data_types.specs.NumberedTypes.{inverse_types}
+use Rattle.schema_data_types.specs.steps.Growing.{Adds}
 use Rattle.schema_data_types.proofs.forms.add_inverses.Given as goal
 
 abbrev pub invariant-loop-inverse : goal.invariant-loop-inverse

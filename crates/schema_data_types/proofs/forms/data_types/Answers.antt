@@ -1,8 +1,8 @@
 use Rattle.std.proofs.Common.{◌<◌, length, arith, subst}
 use Rattle.express_syntax.specs.Views.{declaration_of}
 use Rattle.schema_names.specs.Schemas.{the_schema}
-use Rattle.schema_data_types.specs.Numbered.{whole_types}
-use Rattle.schema_data_types.specs.Growing.{Adds}
+use Rattle.schema_data_types.specs.NumberedTypes.{whole_types}
+use Rattle.schema_data_types.specs.steps.Growing.{Adds}
 use Rattle.schema_data_types.proofs.FormTables.{next-declaration}
 use Rattle.schema_data_types.proofs.forms.data_types.Goals as goal
 

@@ -5,7 +5,7 @@ use Rattle.indexmap.specs.IndexMap.{get}
 use Rattle.express_syntax.specs.ExpressionViews.{capitals}
 use Rattle.express_syntax.specs.Views.{names_of}
 use Rattle.schema_names.specs.Words.{same_word}
-use Rattle.schema_data_types.specs.Enumerated.{includes}
+use Rattle.schema_data_types.specs.steps.Enumerated.{includes}
 use Rattle.schema_data_types.proofs.Enumerated.{includes-more, includes-one, mapped-more}
 use Rattle.schema_data_types.proofs.items.add_names.Goals as goal
 

@@ -1,9 +1,9 @@
 use Rattle.std.proofs.Common.{◌∙◌, ap}
 use Rattle.std.specs.List.{list_any}
-use Rattle.digraph.proofs.RowLists.{row-is}
+use Rattle.graphs.proofs.RowLists.{row-is}
 use Rattle.express_syntax.specs.ExpressionViews.{capitals}
 use Rattle.schema_names.specs.Schemas.{the_schema}
-use Rattle.schema_data_types.specs.Enumerated.{has_item_at}
+use Rattle.schema_data_types.specs.steps.Enumerated.{has_item_at}
 use Rattle.schema_data_types.proofs.items.has_item_within.Goals as goal
 
 pub returns : goal.returns

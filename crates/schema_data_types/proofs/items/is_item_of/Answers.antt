@@ -1,11 +1,11 @@
 use Rattle.std.proofs.Common.{◌≡◌, ◌∙◌, ◌↔◌, true, false, ap, sym, subst}
 use Rattle.std.specs.Prelude.{◌&&◌, not}
-use Rattle.digraph.specs.Graphs.{graph_of}
+use Rattle.graphs.specs.Graphs.{graph_of}
 use Rattle.express_syntax.specs.ExpressionViews.{capitals}
 use Rattle.schema_semantics.specs.Sets.{IsItemOf}
 use Rattle.schema_names.specs.Schemas.{the_schema}
 use Rattle.schema_data_types.proofs.Declared.{parts-within}
-use Rattle.schema_data_types.specs.Enumerated.{has_item_within}
+use Rattle.schema_data_types.specs.steps.Enumerated.{has_item_within}
 use Rattle.schema_data_types.proofs.Enumerated.{has-number, item-told}
 use Rattle.schema_data_types.proofs.items.is_item_of.Goals as goal
 

@@ -1,9 +1,9 @@
 use Rattle.std.proofs.Common.{rules, ◌≡◌, ◌∙◌, ℕ, List, Some, length, vec_len, get_or, ap, sym, subst, refl, arith}
 use Rattle.std.proofs.lemmas.List.{length-map, length-set, take_all}
-use Rattle.digraph.specs.Graphs.{Graph, graph_of}
-use Rattle.digraph.specs.Orders.{IsTopologicalOrder}
-use Rattle.digraph.proofs.Gathered.{order-inside}
-use Rattle.digraph.proofs.RowLists.{row-is}
+use Rattle.graphs.specs.Graphs.{Graph, graph_of}
+use Rattle.graphs.specs.Orders.{IsTopologicalOrder}
+use Rattle.graphs.proofs.Gathered.{order-inside}
+use Rattle.graphs.proofs.RowLists.{row-is}
 use Rattle.express_syntax.specs.Schemas.{Declaration, named}
 use Rattle.express_syntax.specs.Views.{declaration_of}
 use Rattle.schema_names.specs.Numbers.{AreAt, IsAt}
@@ -11,10 +11,10 @@ use Rattle.schema_names.specs.Edges.{parts_in}
 use Rattle.schema_names.specs.Schemas.{the_schema}
 use Rattle.schema_names.proofs.Edges.{is-graph}
 use Rattle.schema_data_types.specs.declared.forms.Form.{Form}
-use Rattle.schema_data_types.specs.Numbered.{all_data_types, whole_types}
+use Rattle.schema_data_types.specs.NumberedTypes.{all_data_types, whole_types}
 use Rattle.schema_data_types.specs.declared.shapes.Shape.{Shape}
-use Rattle.schema_data_types.specs.Shaped.{IsShapeOf}
-use Rattle.schema_data_types.specs.Making.{shape_in}
+use Rattle.schema_data_types.specs.ShapeTables.{IsShapeOf}
+use Rattle.schema_data_types.specs.steps.Making.{shape_in}
 use Rattle.schema_names.proofs.Items.{row-at, mapped-at, rows-same}
 use Rattle.schema_data_types.proofs.Along.{up, below-so, one-more, all-declared}
 use Rattle.schema_data_types.proofs.shape_table.declared_shapes.Goals as goal

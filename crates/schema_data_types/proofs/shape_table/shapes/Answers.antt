@@ -2,7 +2,7 @@ use Rattle.std.proofs.Common.{◌≡◌, ◌∙◌, ap, subst, arith, List, Some
 use Rattle.schema_names.specs.Schemas.{the_schema}
 use Rattle.schema_data_types.specs.declared.forms.Form.{Form}
 use Rattle.schema_data_types.specs.declared.shapes.Shape.{Shape}
-use Rattle.schema_data_types.specs.Making.{shape_seen}
+use Rattle.schema_data_types.specs.steps.Making.{shape_seen}
 use Rattle.schema_data_types.proofs.ShapeTables.{made-more, count-more, are-shapes}
 use Rattle.schema_data_types.proofs.shape_table.shapes.Goals as goal
 

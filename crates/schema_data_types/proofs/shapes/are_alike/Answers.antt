@@ -1,5 +1,5 @@
 use Rattle.std.proofs.Common.{◌≡◌, length, zero, ◌-◌, ◌∙◌, sym, true, refl, arith}
-use Rattle.schema_data_types.specs.Comparing.{agree}
+use Rattle.schema_data_types.specs.steps.Comparing.{agree}
 use Rattle.schema_data_types.proofs.Relations.{agree-alike, alike-agree, ends-apart, ends-alike, goes-on, leads-below}
 use Rattle.schema_data_types.proofs.shapes.are_alike.Goals as goal
 

@@ -1,5 +1,5 @@
 use Rattle.std.proofs.Common.{◌≡◌, ◌<◌, ◌-◌, length}
-use Rattle.schema_data_types.specs.Comparing.{agree}
+use Rattle.schema_data_types.specs.steps.Comparing.{agree}
 use Rattle.schema_data_types.proofs.shapes.are_alike.Given as goal
 
 abbrev pub invariant-loop-step : goal.invariant-loop-step

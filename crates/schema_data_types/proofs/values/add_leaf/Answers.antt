@@ -2,9 +2,9 @@ use Rattle.std.proofs.Common.{◌∙◌, ◌++◌, [], ap, sym, subst, get_or}
 use Rattle.std.specs.List.{cons_option}
 use Rattle.std.proofs.lemmas.Result.{on_ok_weaker}
 use Rattle.schema_names.specs.Schemas.{the_schema}
-use Rattle.schema_data_types.specs.Numbered.{form_in, all_data_types}
-use Rattle.schema_data_types.specs.Values.{AddsAll}
-use Rattle.schema_data_types.specs.Leaves.{leaf_atom, LeafGives}
+use Rattle.schema_data_types.specs.NumberedTypes.{form_in, all_data_types}
+use Rattle.schema_data_types.specs.steps.Values.{AddsAll}
+use Rattle.schema_data_types.specs.steps.Leaves.{leaf_atom, LeafGives}
 use Rattle.schema_data_types.proofs.Sets.{adds-leaf}
 use Rattle.schema_data_types.proofs.Single.{form-at}
 use Rattle.schema_data_types.proofs.values.add_leaf.Goals as goal

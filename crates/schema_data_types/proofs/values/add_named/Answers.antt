@@ -1,12 +1,12 @@
 use Rattle.std.proofs.Common.{rules, ◌≡◌, true, length, vec_len, subst, arith}
 use Rattle.std.proofs.lemmas.Result.{on_ok_weaker}
-use Rattle.digraph.specs.Graphs.{has}
-use Rattle.digraph.proofs.RowLists.{row-is}
+use Rattle.graphs.specs.Graphs.{has}
+use Rattle.graphs.proofs.RowLists.{row-is}
 use Rattle.express_syntax.specs.Schemas.{named}
 use Rattle.schema_semantics.specs.Shapes.{IsOf}
 use Rattle.schema_names.specs.Schemas.{the_schema}
-use Rattle.schema_data_types.specs.Values.{AddsAll}
-use Rattle.schema_data_types.specs.Leaves.{OneGives}
+use Rattle.schema_data_types.specs.steps.Values.{AddsAll}
+use Rattle.schema_data_types.specs.steps.Leaves.{OneGives}
 use Rattle.schema_data_types.proofs.Sets.{adds-alike}
 use Rattle.schema_data_types.proofs.Declared.{giving-named, named-is, parts-within}
 use Rattle.schema_data_types.proofs.values.add_named.Goals as goal

@@ -8,8 +8,8 @@ use Rattle.schema_names.specs.Schemas.{the_schema}
 use Rattle.schema_names.proofs.Numbers.{what-stands}
 use Rattle.schema_names.proofs.Edges.{number-within}
 use Rattle.schema_data_types.specs.declared.values.Atom.TheVariants as atoms
-use Rattle.schema_data_types.specs.Values.{AddsAll}
-use Rattle.schema_data_types.specs.Leaves.{Gives}
+use Rattle.schema_data_types.specs.steps.Values.{AddsAll}
+use Rattle.schema_data_types.specs.steps.Leaves.{Gives}
 use Rattle.schema_data_types.proofs.Sets.{adds-atom}
 use Rattle.schema_data_types.proofs.Declared.{type-here, entity-here, gives-instance}
 use Rattle.schema_names.proofs.Items.{mapped-at}

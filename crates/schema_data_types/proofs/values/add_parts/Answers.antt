@@ -1,10 +1,10 @@
 use Rattle.std.proofs.Common.{◌≡◌, ◌<◌, ◌++◌, ◌∷◌, [], take, sym, subst, length, arith, get_or}
 use Rattle.std.proofs.lemmas.List.{take_all, get_or_default}
-use Rattle.digraph.proofs.Found.{at-member}
+use Rattle.graphs.proofs.Found.{at-member}
 use Rattle.schema_names.specs.Schemas.{the_schema}
 use Rattle.schema_names.proofs.Rows.{take-more}
-use Rattle.schema_data_types.specs.Values.{AddsAll}
-use Rattle.schema_data_types.specs.Leaves.{Gives, OneGives}
+use Rattle.schema_data_types.specs.steps.Values.{AddsAll}
+use Rattle.schema_data_types.specs.steps.Leaves.{Gives, OneGives}
 use Rattle.schema_data_types.proofs.Sets.{adds-alike, adds-both}
 use Rattle.schema_data_types.proofs.Declared.{one-more}
 use Rattle.schema_data_types.proofs.values.add_parts.Goals as goal

@@ -1,7 +1,7 @@
 use Rattle.std.proofs.Common.{take}
 use Rattle.schema_names.specs.Schemas.{the_schema}
-use Rattle.schema_data_types.specs.Values.{AddsAll}
-use Rattle.schema_data_types.specs.Leaves.{OneGives}
+use Rattle.schema_data_types.specs.steps.Values.{AddsAll}
+use Rattle.schema_data_types.specs.steps.Leaves.{OneGives}
 use Rattle.schema_data_types.proofs.values.add_parts.Given as goal
 
 abbrev pub invariant-loop-part : goal.invariant-loop-part

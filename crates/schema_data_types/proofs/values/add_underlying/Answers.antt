@@ -2,16 +2,16 @@ use Rattle.std.proofs.Common.{◌≡◌, ◌∙◌, ap, sym, subst, length, slic
 use Rattle.std.proofs.lemmas.List.{length-map}
 use Rattle.std.proofs.lemmas.Option.{slice_get_within}
 use Rattle.std.proofs.lemmas.Result.{on_ok_weaker}
-use Rattle.digraph.specs.Graphs.{graph_of}
+use Rattle.graphs.specs.Graphs.{graph_of}
 use Rattle.express_syntax.specs.Views.{names_of, data_type_of, underlying_of}
 use Rattle.schema_semantics.specs.Names.{StandsFor}
 use Rattle.schema_names.specs.Schemas.{the_schema}
 use Rattle.schema_names.proofs.Numbers.{one-name}
 use Rattle.schema_data_types.specs.declared.values.Sort.TheVariants as sorts
 use Rattle.schema_data_types.specs.declared.values.Atom.TheVariants as atoms
-use Rattle.schema_data_types.specs.Numbered.{form_in, all_data_types}
-use Rattle.schema_data_types.specs.Values.{AddsAll}
-use Rattle.schema_data_types.specs.Leaves.{LeafGives, Gives}
+use Rattle.schema_data_types.specs.NumberedTypes.{form_in, all_data_types}
+use Rattle.schema_data_types.specs.steps.Values.{AddsAll}
+use Rattle.schema_data_types.specs.steps.Leaves.{LeafGives, Gives}
 use Rattle.schema_data_types.proofs.Sets.{adds-atom, adds-nothing, adds-alike}
 use Rattle.schema_data_types.proofs.Declared.{underlying-at, gives-item, gives-none, gives-leaf}
 use Rattle.schema_data_types.proofs.values.add_underlying.Goals as goal

@@ -2,9 +2,9 @@ use Rattle.std.proofs.Common.{◌∙◌, ap, sym, subst, get_or, false}
 use Rattle.std.proofs.lemmas.Result.{on_ok_weaker}
 use Rattle.schema_semantics.specs.Shapes.{IsOf}
 use Rattle.schema_names.specs.Schemas.{the_schema}
-use Rattle.schema_data_types.specs.Numbered.{form_in, all_data_types}
-use Rattle.schema_data_types.specs.Values.{AddsAll}
-use Rattle.schema_data_types.specs.Leaves.{LeafGives}
+use Rattle.schema_data_types.specs.NumberedTypes.{form_in, all_data_types}
+use Rattle.schema_data_types.specs.steps.Values.{AddsAll}
+use Rattle.schema_data_types.specs.steps.Leaves.{LeafGives}
 use Rattle.schema_data_types.proofs.Sets.{adds-alike}
 use Rattle.schema_data_types.proofs.Single.{form-at, form-named, form-leaf, leaf-is, what-is}
 use Rattle.schema_data_types.proofs.values.add_values.Goals as goal

@@ -1,7 +1,7 @@
 use Rattle.std.proofs.Common.{rules, ◌≡◌, ◌∙◌, length, vec_len, ap, sym, subst, arith}
-use Rattle.digraph.specs.Graphs.{has}
-use Rattle.digraph.proofs.Found.{has-turned}
-use Rattle.digraph.proofs.RowLists.{row-is}
+use Rattle.graphs.specs.Graphs.{has}
+use Rattle.graphs.proofs.Found.{has-turned}
+use Rattle.graphs.proofs.RowLists.{row-is}
 use Rattle.schema_names.specs.Schemas.{the_schema}
 use Rattle.schema_data_types.proofs.Leading.{Tells}
 use Rattle.schema_data_types.proofs.Declared.{over-told, parts-within}

@@ -1,7 +1,7 @@
 use Rattle.std.proofs.Common.{inl, inr, refl, subst, arith}
 use Rattle.std.proofs.lemmas.List.{length-map}
-use Rattle.digraph.specs.Graphs.{graph_of}
-use Rattle.digraph.specs.Closures.{IsFirstCyclic}
+use Rattle.graphs.specs.Graphs.{graph_of}
+use Rattle.graphs.specs.Closures.{IsFirstCyclic}
 use Rattle.schema_faults.proofs.Loops.{cyclic-within}
 use Rattle.schema_faults.proofs.cycles.first_named.Goals as goal
 

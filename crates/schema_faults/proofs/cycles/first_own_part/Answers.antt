@@ -1,13 +1,13 @@
 use Rattle.std.proofs.Common.{sym, subst, ap, length, arith}
 use Rattle.std.proofs.lemmas.List.{length-map}
-use Rattle.digraph.specs.Graphs.{graph_of}
+use Rattle.graphs.specs.Graphs.{graph_of}
 use Rattle.express_syntax.specs.Views.{declaration_of as declaration_seen}
 use Rattle.express_syntax.specs.declared.fault.NameFault.TheVariants.{TypeCycle}
 use Rattle.schema_names.specs.Edges.{IsGraphOf, parts_in}
 use Rattle.schema_names.specs.Schemas.{the_schema}
 use Rattle.schema_names.proofs.Edges.{is-graph}
-use Rattle.schema_faults.specs.Shown.{IsShown}
-use Rattle.schema_faults.specs.FirstNamed.{IsFirstNamed}
+use Rattle.schema_faults.specs.steps.Shown.{IsShown}
+use Rattle.schema_faults.specs.steps.FirstNamed.{IsFirstNamed}
 use Rattle.schema_faults.proofs.Turning.{ok-also, parts-shown}
 use Rattle.schema_faults.proofs.cycles.first_own_part.Goals as goal
 

@@ -6,7 +6,7 @@ use Rattle.express_syntax.specs.Profile.{Every}
 use Rattle.express_syntax.specs.Views.{declaration_of as declaration_seen}
 use Rattle.schema_semantics.specs.Faults.{IsMet, demands_of_declaration}
 use Rattle.schema_names.specs.Schemas.{the_schema}
-use Rattle.schema_faults.specs.Checks.{IsFirstUnmet}
+use Rattle.schema_faults.specs.steps.Checks.{IsFirstUnmet}
 use Rattle.schema_faults.proofs.Unmet.{met-more, unmet-more, mapped-each}
 use Rattle.schema_faults.proofs.demands.check_demands.Goals as goal
 

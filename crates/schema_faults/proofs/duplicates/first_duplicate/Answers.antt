@@ -2,8 +2,8 @@ use Rattle.std.proofs.Common.{None, refl, subst, map}
 use Rattle.express_syntax.specs.Views.{declaration_of as declaration_seen}
 use Rattle.schema_semantics.specs.Faults.{declared_from}
 use Rattle.schema_names.specs.Schemas.{the_schema}
-use Rattle.schema_faults.specs.Repeated.{Sees}
-use Rattle.schema_faults.specs.declared.seen.Seen.{Seen}
+use Rattle.schema_faults.specs.steps.Repeated.{Sees}
+use Rattle.schema_faults.specs.declared.declared_names.Seen.{Seen}
 use Rattle.schema_faults.proofs.Seeing.{seen-nothing}
 use Rattle.schema_faults.proofs.Declaring.{duplicate-shown}
 use Rattle.schema_faults.proofs.duplicates.first_duplicate.Goals as goal

@@ -6,7 +6,7 @@ use Rattle.express_syntax.specs.Profile.{Every}
 use Rattle.express_syntax.specs.Views.{attribute_of, names_of}
 use Rattle.schema_semantics.specs.Faults.{IsMet, demands_of_attribute}
 use Rattle.schema_names.specs.Schemas.{the_schema}
-use Rattle.schema_faults.specs.Checks.{IsFirstUnmet}
+use Rattle.schema_faults.specs.steps.Checks.{IsFirstUnmet}
 use Rattle.schema_faults.proofs.Unmet.{met-more, unmet-more, mapped-each}
 use Rattle.schema_faults.proofs.entities.check_attributes.Goals as goal
 

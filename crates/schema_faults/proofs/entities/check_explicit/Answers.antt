@@ -5,7 +5,7 @@ use Rattle.express_syntax.specs.Profile.{Every}
 use Rattle.express_syntax.specs.Views.{attributes_of, data_type_of, names_of}
 use Rattle.schema_semantics.specs.Faults.{IsMet, demands_of_attribute, demands_of_data_type}
 use Rattle.schema_names.specs.Schemas.{the_schema}
-use Rattle.schema_faults.specs.Checks.{IsFirstUnmet}
+use Rattle.schema_faults.specs.steps.Checks.{IsFirstUnmet}
 use Rattle.schema_faults.proofs.Unmet.{checks-on, unmet-left}
 use Rattle.schema_faults.proofs.entities.check_explicit.Goals as goal
 

@@ -3,7 +3,7 @@ use Rattle.express_syntax.specs.ExpressionViews.{capitals}
 use Rattle.express_syntax.specs.Views.{explicit_of}
 use Rattle.schema_semantics.specs.Faults.{demands_of_explicit}
 use Rattle.schema_names.specs.Schemas.{the_schema}
-use Rattle.schema_faults.specs.Checks.{Checks}
+use Rattle.schema_faults.specs.steps.Checks.{Checks}
 use Rattle.schema_names.proofs.Clauses.{clause-listed}
 use Rattle.schema_faults.proofs.entities.check_explicit_clauses.Goals as goal
 

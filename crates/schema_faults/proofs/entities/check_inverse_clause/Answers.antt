@@ -1,8 +1,8 @@
 use Rattle.std.proofs.Common.{flat_map, subst}
 use Rattle.express_syntax.specs.Views.{inverse_of}
 use Rattle.schema_names.specs.Schemas.{the_schema}
-use Rattle.schema_faults.specs.Checks.{Checks}
-use Rattle.schema_faults.specs.Clauses.{demands_of_own_inverse}
+use Rattle.schema_faults.specs.steps.Checks.{Checks}
+use Rattle.schema_faults.specs.steps.Clauses.{demands_of_own_inverse}
 use Rattle.schema_names.proofs.Clauses.{clause-listed}
 use Rattle.schema_faults.proofs.entities.check_inverse_clause.Goals as goal
 

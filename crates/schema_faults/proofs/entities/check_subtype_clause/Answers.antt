@@ -2,7 +2,7 @@ use Rattle.std.proofs.Common.{map, subst}
 use Rattle.express_syntax.specs.ExpressionViews.{capitals}
 use Rattle.schema_semantics.specs.Faults.{an_entity}
 use Rattle.schema_names.specs.Schemas.{the_schema}
-use Rattle.schema_faults.specs.Checks.{Checks}
+use Rattle.schema_faults.specs.steps.Checks.{Checks}
 use Rattle.schema_names.proofs.Clauses.{clause-listed}
 use Rattle.schema_faults.proofs.entities.check_subtype_clause.Goals as goal
 

@@ -3,7 +3,7 @@ use Rattle.express_syntax.specs.ExpressionViews.{capitals}
 use Rattle.express_syntax.specs.Views.{inverse_of}
 use Rattle.schema_semantics.specs.Faults.{an_entity}
 use Rattle.schema_names.specs.Schemas.{the_schema}
-use Rattle.schema_faults.specs.Clauses.{demands_of_inverted}
+use Rattle.schema_faults.specs.steps.Clauses.{demands_of_inverted}
 use Rattle.schema_faults.proofs.Unmet.{checks-on}
 use Rattle.schema_faults.proofs.inverses.check_inverse.Goals as goal
 

@@ -1,5 +1,5 @@
 use Rattle.std.proofs.Common.{◌∙◌, sym}
-use Rattle.digraph.specs.Graphs.{graph_of}
+use Rattle.graphs.specs.Graphs.{graph_of}
 use Rattle.express_syntax.specs.ExpressionViews.{capitals}
 use Rattle.schema_names.specs.Schemas.{the_schema}
 use Rattle.schema_faults.proofs.Deciding.{inverted-met, inverted-unmet}

@@ -1,9 +1,9 @@
 use Rattle.std.proofs.Common.{◌≡◌, drop}
 use Rattle.std.specs.List.{list_any}
-use Rattle.digraph.specs.Graphs.{graph_of}
+use Rattle.graphs.specs.Graphs.{graph_of}
 use Rattle.express_syntax.specs.Views.{names_of}
 use Rattle.schema_names.specs.Schemas.{the_schema}
-use Rattle.schema_faults.specs.Kinds.{is_kind}
+use Rattle.schema_faults.specs.steps.Kinds.{is_kind}
 use Rattle.schema_faults.proofs.kinds.any_kind.Given as goal
 
 -- what is left decides

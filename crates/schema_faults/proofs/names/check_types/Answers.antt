@@ -5,7 +5,7 @@ use Rattle.express_syntax.specs.ExpressionViews.{capitals}
 use Rattle.express_syntax.specs.Profile.{Every}
 use Rattle.schema_semantics.specs.Faults.{IsMet, a_type}
 use Rattle.schema_names.specs.Schemas.{the_schema}
-use Rattle.schema_faults.specs.Checks.{IsFirstUnmet}
+use Rattle.schema_faults.specs.steps.Checks.{IsFirstUnmet}
 use Rattle.schema_faults.proofs.Unmet.{asked_each, one-each, met-more, unmet-more}
 use Rattle.schema_faults.proofs.names.check_types.Goals as goal
 

@@ -1,7 +1,7 @@
 use Rattle.std.proofs.Common.{map, take}
 use Rattle.express_syntax.specs.Views.{declaration_of as declaration_seen}
 use Rattle.schema_semantics.specs.Faults.{declared_from}
-use Rattle.schema_faults.specs.Repeated.{Sees}
+use Rattle.schema_faults.specs.steps.Repeated.{Sees}
 use Rattle.schema_faults.proofs.parts.see_all.Given as goal
 
 abbrev pub invariant-loop-i : goal.invariant-loop-i

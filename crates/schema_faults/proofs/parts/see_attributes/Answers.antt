@@ -2,8 +2,8 @@ use Rattle.std.proofs.Common.{subst, flat_map}
 use Rattle.express_syntax.specs.Views.{entity_of}
 use Rattle.schema_semantics.specs.Names.{attribute_names}
 use Rattle.schema_semantics.specs.Faults.{in_scope}
-use Rattle.schema_faults.specs.Repeated.{Sees}
-use Rattle.schema_faults.specs.Parts.{explicit_in, inverse_in}
+use Rattle.schema_faults.specs.steps.Repeated.{Sees}
+use Rattle.schema_faults.specs.steps.Parts.{explicit_in, inverse_in}
 use Rattle.schema_faults.proofs.Turning.{ok-also}
 use Rattle.schema_faults.proofs.Declaring.{sees-attributes}
 use Rattle.schema_faults.proofs.parts.see_attributes.Goals as goal

@@ -2,9 +2,9 @@ use Rattle.std.proofs.Common.{subst, sym, ◌∷◌, []}
 use Rattle.express_syntax.specs.ExpressionViews.{capitals}
 use Rattle.express_syntax.specs.Views.{entity_of, underlying_of, declaration_of as declaration_seen}
 use Rattle.schema_semantics.specs.Names.{attribute_names}
-use Rattle.schema_semantics.specs.Faults.{in_scope, items_of}
-use Rattle.schema_faults.specs.Repeated.{Sees}
-use Rattle.schema_faults.specs.Parts.{declared_in}
+use Rattle.schema_semantics.specs.Faults.{in_scope, enumerated_items}
+use Rattle.schema_faults.specs.steps.Repeated.{Sees}
+use Rattle.schema_faults.specs.steps.Parts.{declared_in}
 use Rattle.schema_faults.proofs.Turning.{ok-also}
 use Rattle.schema_faults.proofs.Declaring.{sees-on}
 use Rattle.schema_faults.proofs.parts.see_declaration.Goals as goal
@@ -13,7 +13,7 @@ pub returns-in_ok-see-in-Type : goal.returns-in_ok-see-in-Type
 returns-in_ok-see-in-Type c =
     let k = c.args.scope in
     let t = c.in-Type.declared in
-    let items = in_scope k (items_of (underlying_of t.underlying)) in
+    let items = in_scope k (enumerated_items (underlying_of t.underlying)) in
     ok-also (λ _. Sees c.see.new.seen c.see_items.new.seen items)
     (λ _. Sees c.args.seen.now c.see_items.new.seen (declared_in k (declaration_seen c.args.declaration.now)))
     (λ _ h.

@@ -1,5 +1,5 @@
 use Rattle.std.proofs.Common.{flat_map}
-use Rattle.schema_faults.specs.Parts.{own_in}
+use Rattle.schema_faults.specs.steps.Parts.{own_in}
 use Rattle.schema_faults.proofs.Declaring.{sees-item, sees-whole}
 use Rattle.schema_faults.proofs.parts.see_each_own.Goals as goal
 

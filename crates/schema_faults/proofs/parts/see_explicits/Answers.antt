@@ -1,8 +1,8 @@
 use Rattle.std.proofs.Common.{flat_map, subst, ap, ◌∙◌}
 use Rattle.schema_semantics.specs.Names.{own_names}
 use Rattle.schema_semantics.specs.Faults.{in_scope}
-use Rattle.schema_faults.specs.Repeated.{Sees}
-use Rattle.schema_faults.specs.Parts.{explicit_in}
+use Rattle.schema_faults.specs.steps.Repeated.{Sees}
+use Rattle.schema_faults.specs.steps.Parts.{explicit_in}
 use Rattle.schema_faults.proofs.Declaring.{attributes-are, sees-item, sees-whole}
 use Rattle.schema_faults.proofs.parts.see_explicits.Goals as goal
 

@@ -1,6 +1,6 @@
 use Rattle.std.proofs.Common.{flat_map, take}
-use Rattle.schema_faults.specs.Repeated.{Sees}
-use Rattle.schema_faults.specs.Parts.{explicit_in}
+use Rattle.schema_faults.specs.steps.Repeated.{Sees}
+use Rattle.schema_faults.specs.steps.Parts.{explicit_in}
 use Rattle.schema_faults.proofs.parts.see_explicits.Given as goal
 
 abbrev pub invariant-loop-explicit : goal.invariant-loop-explicit

@@ -1,6 +1,6 @@
 use Rattle.std.proofs.Common.{OnOk, subst, sym}
-use Rattle.schema_faults.specs.Repeated.{Sees}
-use Rattle.schema_faults.specs.Parts.{own_in}
+use Rattle.schema_faults.specs.steps.Repeated.{Sees}
+use Rattle.schema_faults.specs.steps.Parts.{own_in}
 use Rattle.schema_faults.proofs.parts.see_own.Goals as goal
 
 pub returns-in-Unqualified : goal.returns-in-Unqualified

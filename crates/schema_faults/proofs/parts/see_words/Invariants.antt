@@ -1,6 +1,6 @@
 use Rattle.std.proofs.Common.{flat_map, take}
-use Rattle.schema_faults.specs.Repeated.{Sees}
-use Rattle.schema_faults.specs.Parts.{word_in}
+use Rattle.schema_faults.specs.steps.Repeated.{Sees}
+use Rattle.schema_faults.specs.steps.Parts.{word_in}
 use Rattle.schema_faults.proofs.parts.see_words.Given as goal
 
 abbrev pub invariant-loop-word : goal.invariant-loop-word

@@ -6,9 +6,9 @@ use Rattle.schema_semantics.specs.Names.{listed}
 use Rattle.schema_semantics.specs.Ranks.{Self, HasReason}
 use Rattle.schema_semantics.specs.Parts.{parts_of_rules, parts_of_uniques}
 use Rattle.schema_names.proofs.Clauses.{clause-listed}
-use Rattle.schema_references.specs.Taking.{schema_in}
-use Rattle.schema_parts.specs.Adding.{Adds, unchecked_in}
-use Rattle.schema_parts.proofs.Joining.{adds-joined}
+use Rattle.schema_attribute_references.specs.steps.Taking.{schema_in}
+use Rattle.schema_unchecked_declarations.specs.UncheckedLists.{Adds, unchecked_in}
+use Rattle.schema_unchecked_declarations.proofs.Joining.{adds-joined}
 use Rattle.schema_unchecked.proofs.Standing.{number-here, stands-here}
 use Rattle.schema_unchecked.proofs.declarations.add_constraints.Goals as goal
 

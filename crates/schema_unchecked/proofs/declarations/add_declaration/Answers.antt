@@ -2,8 +2,8 @@ use Rattle.std.proofs.Common.{OnOk, subst, sym}
 use Rattle.express_syntax.specs.Views.{declaration_of}
 use Rattle.schema_semantics.specs.Parts.{parts_of_declaration}
 use Rattle.schema_names.specs.Numbers.{IsAt}
-use Rattle.schema_references.specs.Taking.{schema_in}
-use Rattle.schema_parts.specs.Adding.{Adds, unchecked_in}
+use Rattle.schema_attribute_references.specs.steps.Taking.{schema_in}
+use Rattle.schema_unchecked_declarations.specs.UncheckedLists.{Adds, unchecked_in}
 use Rattle.schema_unchecked.proofs.declarations.add_declaration.Goals as goal
 
 pub add_type-requires-clause-at : goal.add_type-requires-clause-at

@@ -4,10 +4,10 @@ use Rattle.express_syntax.specs.Views.{entity_of}
 use Rattle.schema_semantics.specs.Names.{listed}
 use Rattle.schema_semantics.specs.Ranks.{Self, HasReason}
 use Rattle.schema_semantics.specs.Parts.{for_each, parts_of_supertype, parts_of_explicit, parts_of_derived, parts_of_inverse, parts_of_uniques, parts_of_rules}
-use Rattle.schema_references.specs.Taking.{schema_in}
-use Rattle.schema_parts.specs.Adding.{Adds, unchecked_in}
-use Rattle.schema_parts.proofs.Joining.{adds-joined}
-use Rattle.schema_unchecked.specs.Listing.{parts_of_constraints}
+use Rattle.schema_attribute_references.specs.steps.Taking.{schema_in}
+use Rattle.schema_unchecked_declarations.specs.UncheckedLists.{Adds, unchecked_in}
+use Rattle.schema_unchecked_declarations.proofs.Joining.{adds-joined}
+use Rattle.schema_unchecked.specs.steps.Listing.{parts_of_constraints}
 use Rattle.schema_unchecked.proofs.declarations.add_entity.Goals as goal
 
 pub returns : goal.returns

@@ -5,9 +5,9 @@ use Rattle.express_syntax.specs.Views.{type_of, rule_of}
 use Rattle.schema_semantics.specs.Names.{listed}
 use Rattle.schema_semantics.specs.Parts.{parts_of_underlying, parts_of_rules, TypeRuleHasReason}
 use Rattle.schema_names.proofs.Clauses.{clause-listed}
-use Rattle.schema_references.specs.Taking.{schema_in}
-use Rattle.schema_parts.specs.Adding.{Adds, unchecked_in}
-use Rattle.schema_parts.proofs.Joining.{adds-joined}
+use Rattle.schema_attribute_references.specs.steps.Taking.{schema_in}
+use Rattle.schema_unchecked_declarations.specs.UncheckedLists.{Adds, unchecked_in}
+use Rattle.schema_unchecked_declarations.proofs.Joining.{adds-joined}
 use Rattle.schema_unchecked.proofs.Standing.{number-here}
 use Rattle.schema_unchecked.proofs.declarations.add_type.Goals as goal
 

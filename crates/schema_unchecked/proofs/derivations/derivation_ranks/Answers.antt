@@ -1,9 +1,9 @@
 use Rattle.std.proofs.Common.{◌≡◌, ◌∙◌, ◌<◌, ap, sym, subst, arith, length, map}
 use Rattle.std.proofs.lemmas.List.{length-map}
-use Rattle.digraph.specs.Graphs.{Graph, IsGraph, graph_of}
-use Rattle.schema_references.specs.Taking.{schema_in}
-use Rattle.schema_derivations.specs.Ranking.{AreUses, AreFaulty}
-use Rattle.schema_unchecked.specs.Surveyed.{uses_below, is_faulty}
+use Rattle.graphs.specs.Graphs.{Graph, IsGraph, graph_of}
+use Rattle.schema_attribute_references.specs.steps.Taking.{schema_in}
+use Rattle.schema_derived_attributes.specs.AttributeRanks.{AreUses, AreFaulty}
+use Rattle.schema_unchecked.specs.steps.Surveyed.{uses_below, is_faulty}
 use Rattle.schema_unchecked.proofs.Used.{is-graph, are-uses, are-faulty}
 use Rattle.schema_unchecked.proofs.derivations.derivation_ranks.Goals as goal
 

@@ -1,5 +1,5 @@
 use Rattle.std.proofs.Common.{◌≡◌, ◌++◌, drop, map}
-use Rattle.schema_unchecked.specs.Surveyed.{is_faulty}
+use Rattle.schema_unchecked.specs.steps.Surveyed.{is_faulty}
 use Rattle.schema_unchecked.proofs.derivations.faulty_ones.Given as goal
 
 abbrev pub invariant-loop-judgement : goal.invariant-loop-judgement

@@ -2,13 +2,13 @@ use Rattle.std.proofs.Common.{◌≡◌, ◌∙◌, ◌<◌, ◌≤◌, Some, []
 use Rattle.std.proofs.lemmas.List.{length-map, take_all}
 use Rattle.express_syntax.specs.Views.{declaration_of, derived_of, body_of}
 use Rattle.schema_data_types.specs.declared.values.Atom.TheVariants as atoms
-use Rattle.schema_data_types.specs.Values.{Holds}
-use Rattle.schema_references.specs.Taking.{schema_in}
+use Rattle.schema_data_types.specs.steps.Values.{Holds}
+use Rattle.schema_attribute_references.specs.steps.Taking.{schema_in}
 use Rattle.schema_attributes.specs.Derivations.{derivations_in}
-use Rattle.schema_derivations.specs.Asked.{deriveds_in}
-use Rattle.schema_derivations.proofs.Asking.{seen-there, count-of}
-use Rattle.schema_unchecked.specs.Judging.{IsJudged}
-use Rattle.schema_unchecked.specs.Growing.{AddsJudged}
+use Rattle.schema_derived_attributes.specs.steps.Asked.{deriveds_in}
+use Rattle.schema_derived_attributes.proofs.Asking.{seen-there, count-of}
+use Rattle.schema_unchecked.specs.steps.Judging.{IsJudged}
+use Rattle.schema_unchecked.specs.steps.Growing.{AddsJudged}
 use Rattle.schema_unchecked.proofs.InTurn.{one-judged, adds-none}
 use Rattle.schema_unchecked.proofs.derivations.judge_declaration.Goals as goal
 

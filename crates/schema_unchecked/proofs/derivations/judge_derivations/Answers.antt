@@ -1,10 +1,10 @@
 use Rattle.std.proofs.Common.{◌≡◌, ◌∙◌, ◌<◌, ◌≤◌, [], ap, sym, subst, arith, length, map, flat_map, take}
 use Rattle.std.proofs.lemmas.List.{length-map, take_all}
 use Rattle.express_syntax.specs.Views.{declaration_of}
-use Rattle.schema_references.specs.Taking.{schema_in}
+use Rattle.schema_attribute_references.specs.steps.Taking.{schema_in}
 use Rattle.schema_attributes.specs.Derivations.{derivations_in}
-use Rattle.schema_derivations.proofs.Asking.{seen-there}
-use Rattle.schema_unchecked.specs.Growing.{AddsJudged}
+use Rattle.schema_derived_attributes.proofs.Asking.{seen-there}
+use Rattle.schema_unchecked.specs.steps.Growing.{AddsJudged}
 use Rattle.schema_unchecked.proofs.InTurn.{value-of, declaration-judged, adds-all}
 use Rattle.schema_unchecked.proofs.derivations.judge_derivations.Goals as goal
 

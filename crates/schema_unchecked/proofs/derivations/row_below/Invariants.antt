@@ -1,5 +1,5 @@
 use Rattle.std.proofs.Common.{◌≡◌, ◌++◌, drop}
-use Rattle.schema_unchecked.specs.Surveyed.{below}
+use Rattle.schema_unchecked.specs.steps.Surveyed.{below}
 use Rattle.schema_unchecked.proofs.derivations.row_below.Given as goal
 
 abbrev pub invariant-loop-number : goal.invariant-loop-number

@@ -1,6 +1,6 @@
 use Rattle.std.proofs.Common.{◌≡◌, ◌++◌, drop, map, length}
-use Rattle.digraph.specs.Graphs.{graph_of}
-use Rattle.schema_unchecked.specs.Surveyed.{uses_below}
+use Rattle.graphs.specs.Graphs.{graph_of}
+use Rattle.schema_unchecked.specs.steps.Surveyed.{uses_below}
 use Rattle.schema_unchecked.proofs.derivations.rows_of_uses.Given as goal
 
 abbrev pub invariant-loop-judgement : goal.invariant-loop-judgement

@@ -2,10 +2,10 @@ use Rattle.std.proofs.Common.{◌≡◌, ◌<◌, Some, length, arith, map, refl
 use Rattle.std.proofs.lemmas.List.{take_all}
 use Rattle.express_syntax.specs.Views.{declaration_of}
 use Rattle.schema_semantics.specs.Parts.{for_each, parts_of_declaration}
-use Rattle.schema_references.specs.Taking.{schema_in}
-use Rattle.schema_parts.specs.Adding.{Adds, unchecked_in}
-use Rattle.schema_parts.proofs.Joining.{adds-none}
-use Rattle.schema_parts.proofs.Turns.{adds-next}
+use Rattle.schema_attribute_references.specs.steps.Taking.{schema_in}
+use Rattle.schema_unchecked_declarations.specs.UncheckedLists.{Adds, unchecked_in}
+use Rattle.schema_unchecked_declarations.proofs.Joining.{adds-none}
+use Rattle.schema_unchecked_declarations.proofs.Turns.{adds-next}
 use Rattle.schema_unchecked.proofs.Standing.{seen-at}
 use Rattle.schema_unchecked.proofs.Deriving.{before-more}
 use Rattle.schema_unchecked.proofs.list.add_all.Goals as goal

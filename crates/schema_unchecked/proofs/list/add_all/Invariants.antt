@@ -1,9 +1,9 @@
 use Rattle.std.proofs.Common.{◌≡◌, map, take}
 use Rattle.express_syntax.specs.Views.{declaration_of}
 use Rattle.schema_semantics.specs.Parts.{for_each, parts_of_declaration}
-use Rattle.schema_references.specs.Taking.{schema_in}
-use Rattle.schema_parts.specs.Adding.{Adds, unchecked_in}
-use Rattle.schema_unchecked.specs.Places.{derivations_before}
+use Rattle.schema_attribute_references.specs.steps.Taking.{schema_in}
+use Rattle.schema_unchecked_declarations.specs.UncheckedLists.{Adds, unchecked_in}
+use Rattle.schema_unchecked.specs.steps.Places.{derivations_before}
 use Rattle.schema_unchecked.proofs.list.add_all.Given as goal
 
 abbrev pub invariant-loop-i : goal.invariant-loop-i

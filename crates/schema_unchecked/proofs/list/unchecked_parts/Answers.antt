@@ -2,8 +2,8 @@ use Rattle.std.proofs.Common.{◌<◌, ◌++◌, length, arith, map, ap, sym, su
 use Rattle.std.proofs.lemmas.List.{length-map}
 use Rattle.express_syntax.specs.Views.{declaration_of}
 use Rattle.schema_semantics.specs.Parts.{AreUnchecked}
-use Rattle.schema_references.specs.Taking.{schema_in}
-use Rattle.schema_parts.specs.Adding.{unchecked_in}
+use Rattle.schema_attribute_references.specs.steps.Taking.{schema_in}
+use Rattle.schema_unchecked_declarations.specs.UncheckedLists.{unchecked_in}
 use Rattle.schema_unchecked.proofs.list.unchecked_parts.Goals as goal
 
 pub add_all-requires-clause-few : goal.add_all-requires-clause-few

@@ -1,7 +1,7 @@
 use Rattle.std.proofs.Common.{rules, tests, ◌∙◌}
 use Rattle.std.proofs.lemmas.Iterator.Search.{any_from_yields_List}
 use Rattle.std.proofs.lemmas.Iterator.{YieldsList-from_slice}
-use Rattle.schema_unchecked.specs.Surveyed.{is_aside}
+use Rattle.schema_unchecked.specs.steps.Surveyed.{is_aside}
 use Rattle.schema_unchecked.proofs.reasons.any_aside.Goals as goal
 
 pub returns : goal.returns

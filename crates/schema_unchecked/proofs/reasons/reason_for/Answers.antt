@@ -1,8 +1,8 @@
 use Rattle.std.proofs.Common.{sym, subst}
 use Rattle.express_syntax.specs.Views.{body_of}
-use Rattle.schema_data_types.specs.Values.{Holds}
-use Rattle.schema_references.specs.Taking.{schema_in}
-use Rattle.schema_unchecked.specs.Judging.{IsReasonFor}
+use Rattle.schema_data_types.specs.steps.Values.{Holds}
+use Rattle.schema_attribute_references.specs.steps.Taking.{schema_in}
+use Rattle.schema_unchecked.specs.steps.Judging.{IsReasonFor}
 use Rattle.schema_unchecked.proofs.Firsts.{reason-is}
 use Rattle.schema_unchecked.proofs.reasons.reason_for.Goals as goal
 

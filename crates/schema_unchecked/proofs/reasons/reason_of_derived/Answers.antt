@@ -1,9 +1,9 @@
 use Rattle.std.proofs.Common.{◌≡◌, ◌≤◌, ◌<◌, ◌∙◌, Some, sym, subst, ap, arith, length, slice_get}
 use Rattle.schema_semantics.specs.Ranks.{Self}
-use Rattle.schema_references.specs.Taking.{schema_in}
+use Rattle.schema_attribute_references.specs.steps.Taking.{schema_in}
 use Rattle.schema_attributes.specs.Derivations.{all_derivations}
-use Rattle.schema_derivations.proofs.Ranked.{below-end, stands-at}
-use Rattle.schema_unchecked.specs.Judging.{IsReasonFor}
+use Rattle.schema_derived_attributes.proofs.Ranked.{below-end, stands-at}
+use Rattle.schema_unchecked.specs.steps.Judging.{IsReasonFor}
 use Rattle.schema_unchecked.proofs.Firsts.{reason-is}
 use Rattle.schema_unchecked.proofs.reasons.reason_of_derived.Goals as goal
 

@@ -3,10 +3,10 @@ use Rattle.std.proofs.lemmas.Result.{on_ok_weaker}
 use Rattle.express_syntax.specs.ExpressionViews.{capitals}
 use Rattle.express_syntax.specs.Views.{rule_of}
 use Rattle.schema_semantics.specs.Ranks.{Self, HasReason}
-use Rattle.schema_data_types.specs.Values.{Holds}
-use Rattle.schema_references.specs.Taking.{schema_in}
-use Rattle.schema_parts.specs.Adding.{unchecked_in}
-use Rattle.schema_unchecked.specs.Rules.{RuleHasReason}
+use Rattle.schema_data_types.specs.steps.Values.{Holds}
+use Rattle.schema_attribute_references.specs.steps.Taking.{schema_in}
+use Rattle.schema_unchecked_declarations.specs.UncheckedLists.{unchecked_in}
+use Rattle.schema_unchecked.specs.steps.Rules.{RuleHasReason}
 use Rattle.schema_unchecked.proofs.Selves.{Alike}
 use Rattle.schema_unchecked.proofs.SelfSets.{rules-alike, entity-alike}
 use Rattle.schema_unchecked.proofs.rules.add_entity_rules.Goals as goal

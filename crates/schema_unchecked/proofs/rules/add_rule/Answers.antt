@@ -4,10 +4,10 @@ use Rattle.express_syntax.specs.ExpressionViews.{capitals}
 use Rattle.express_syntax.specs.Views.{if_some, body_of}
 use Rattle.schema_semantics.specs.declared.unchecked.PartKind.TheVariants as parts
 use Rattle.schema_semantics.specs.Parts.{Candidate, dotted, label_of}
-use Rattle.schema_references.specs.Taking.{schema_in}
-use Rattle.schema_parts.specs.Adding.{unchecked_in}
-use Rattle.schema_unchecked.specs.Listing.{given}
-use Rattle.schema_unchecked.specs.Rules.{has_reason}
+use Rattle.schema_attribute_references.specs.steps.Taking.{schema_in}
+use Rattle.schema_unchecked_declarations.specs.UncheckedLists.{unchecked_in}
+use Rattle.schema_unchecked.specs.steps.Listing.{given}
+use Rattle.schema_unchecked.specs.steps.Rules.{has_reason}
 use Rattle.schema_unchecked.proofs.Reasoned.{adds-given}
 use Rattle.schema_unchecked.proofs.rules.add_rule.Goals as goal
 

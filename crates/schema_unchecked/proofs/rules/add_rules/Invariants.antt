@@ -2,9 +2,9 @@ use Rattle.std.proofs.Common.{map, take}
 use Rattle.express_syntax.specs.ExpressionViews.{capitals}
 use Rattle.express_syntax.specs.Views.{rule_of}
 use Rattle.schema_semantics.specs.Parts.{parts_of_rules}
-use Rattle.schema_references.specs.Taking.{schema_in}
-use Rattle.schema_parts.specs.Adding.{Adds, unchecked_in}
-use Rattle.schema_unchecked.specs.Rules.{has_reason}
+use Rattle.schema_attribute_references.specs.steps.Taking.{schema_in}
+use Rattle.schema_unchecked_declarations.specs.UncheckedLists.{Adds, unchecked_in}
+use Rattle.schema_unchecked.specs.steps.Rules.{has_reason}
 use Rattle.schema_unchecked.proofs.rules.add_rules.Given as goal
 
 abbrev pub invariant-loop-i : goal.invariant-loop-i

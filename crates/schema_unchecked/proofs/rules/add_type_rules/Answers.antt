@@ -5,10 +5,10 @@ use Rattle.express_syntax.specs.Schemas.{named}
 use Rattle.express_syntax.specs.Views.{rule_of}
 use Rattle.schema_semantics.specs.Parts.{TypeRuleHasReason}
 use Rattle.schema_semantics.specs.Shapes.{IsOf}
-use Rattle.schema_data_types.specs.Values.{Holds}
-use Rattle.schema_references.specs.Taking.{schema_in}
-use Rattle.schema_parts.specs.Adding.{unchecked_in}
-use Rattle.schema_unchecked.specs.Rules.{RuleHasReason}
+use Rattle.schema_data_types.specs.steps.Values.{Holds}
+use Rattle.schema_attribute_references.specs.steps.Taking.{schema_in}
+use Rattle.schema_unchecked_declarations.specs.UncheckedLists.{unchecked_in}
+use Rattle.schema_unchecked.specs.steps.Rules.{RuleHasReason}
 use Rattle.schema_unchecked.proofs.SelfSets.{SameSet, rules-alike, type-alike}
 use Rattle.schema_unchecked.proofs.rules.add_type_rules.Goals as goal
 

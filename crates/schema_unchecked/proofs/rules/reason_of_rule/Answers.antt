@@ -1,10 +1,10 @@
 use Rattle.std.proofs.lemmas.Result.{IfOk-weaker}
 use Rattle.express_syntax.specs.Views.{body_of}
 use Rattle.schema_semantics.specs.Ranks.{HasReason}
-use Rattle.schema_data_types.specs.Values.{Holds}
-use Rattle.schema_references.specs.Taking.{schema_in}
-use Rattle.schema_unchecked.specs.Judging.{IsFirstReason, IsReasonFor}
-use Rattle.schema_unchecked.specs.Rules.{RuleHasReason}
+use Rattle.schema_data_types.specs.steps.Values.{Holds}
+use Rattle.schema_attribute_references.specs.steps.Taking.{schema_in}
+use Rattle.schema_unchecked.specs.steps.Judging.{IsFirstReason, IsReasonFor}
+use Rattle.schema_unchecked.specs.steps.Rules.{RuleHasReason}
 use Rattle.schema_unchecked.proofs.Selves.{reason-alike}
 use Rattle.schema_unchecked.proofs.SelfSets.{over-select, over-none}
 use Rattle.schema_unchecked.proofs.rules.reason_of_rule.Goals as goal

@@ -1,7 +1,7 @@
 use Rattle.express_syntax.specs.ExpressionViews.{capitals}
 use Rattle.express_syntax.specs.Schemas.{named}
 use Rattle.schema_semantics.specs.Shapes.{IsOf}
-use Rattle.schema_references.specs.Taking.{schema_in}
+use Rattle.schema_attribute_references.specs.steps.Taking.{schema_in}
 use Rattle.schema_unchecked.proofs.SelfSets.{set-added}
 use Rattle.schema_unchecked.proofs.rules.values_of_type.Goals as goal
 

@@ -1,6 +1,6 @@
-use Rattle.step_equal.specs.TableViews.{table_of}
+use Rattle.value_equality.specs.TableViews.{table_of}
 use Rattle.schema_names.specs.Schemas.{the_schema}
-use Rattle.step_rewrite.specs.Rewriting.{smaller_text}
+use Rattle.merge_output.specs.steps.Rewriting.{smaller_text}
 use Rattle.certificate_text.specs.Texts.{certificate_text}
 use Rattle.shrinking.specs.Shrinking.{written_to}
 use Rattle.shrinking.proofs.Answering.{all_written, cut}

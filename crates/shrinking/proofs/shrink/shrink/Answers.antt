@@ -1,6 +1,6 @@
 use Rattle.std.proofs.Common.{Some, arith}
 use Rattle.files.specs.declared.read.ReadFault.TheVariants.{TooLarge}
-use Rattle.pin_choices.specs.Chosen.{choice_of}
+use Rattle.merge_choices.specs.ChosenEntities.{choice_of}
 use Rattle.shrinking.proofs.Answering.{schema_not_given}
 use Rattle.shrinking.proofs.shrink.shrink.Goals as goal
 

@@ -1,8 +1,8 @@
 use Rattle.std.proofs.Common.{sym, ◌∙◌}
 use Rattle.express_syntax.specs.SchemaViews.{schema_of}
-use Rattle.pin_choices.specs.Chosen.{choice_of}
+use Rattle.merge_choices.specs.ChosenEntities.{choice_of}
 use Rattle.files.specs.declared.fault.Role.TheVariants.{Certificate, File, Output, Schema}
-use Rattle.faults.proofs.Failing.{schema_alone, schema_first}
+use Rattle.reports.proofs.Failing.{schema_alone, schema_first}
 use Rattle.shrinking.specs.declared.summary.Summary.{Summary}
 use Rattle.shrinking.proofs.Answering.{schema_unread, unresolved}
 use Rattle.shrinking.proofs.shrink.shrink_by.Goals as goal

@@ -1,10 +1,10 @@
 use Rattle.std.proofs.Common.{refl, subst}
 use Rattle.schema_semantics.specs.Parts.{AreUnchecked}
 use Rattle.schema_names.specs.Schemas.{the_schema}
-use Rattle.schema_parts.specs.Adding.{unchecked_in}
+use Rattle.schema_unchecked_declarations.specs.UncheckedLists.{unchecked_in}
 use Rattle.conformance.specs.Choices.{chosen_names}
-use Rattle.pin_choices.specs.Chosen.{choice_of}
-use Rattle.faults.specs.declared.fault.Fault.TheVariants.{Unchecked}
+use Rattle.merge_choices.specs.ChosenEntities.{choice_of}
+use Rattle.reports.specs.declared.fault.Fault.TheVariants.{Unchecked}
 use Rattle.shrinking.specs.Shrinking.{written_to}
 use Rattle.shrinking.proofs.Answering.{settled, unknown, unlooked}
 use Rattle.shrinking.proofs.shrink.shrink_graph.Goals as goal

@@ -2,8 +2,8 @@ use Rattle.std.proofs.Common.{ℕ, Global, Err, ap, refl, subst, sym, ◌∙◌}
 use Rattle.std.specs.Prelude.{Vec}
 use Rattle.schema_names.specs.Schemas.{the_schema}
 use Rattle.files.specs.declared.fault.Role.TheVariants.{Certificate, File, Output, Schema}
-use Rattle.faults.proofs.Failing.{file_read, unread_device, unread_file, unread_other}
-use Rattle.shrinking.specs.ComputedAnswers.{FileShrinks}
+use Rattle.reports.proofs.Failing.{file_read, unread_device, unread_file, unread_other}
+use Rattle.shrinking.specs.steps.ComputedAnswers.{FileShrinks}
 use Rattle.shrinking.specs.Shrinking.{written_to}
 use Rattle.shrinking.specs.declared.summary.Summary.{Summary}
 use Rattle.shrinking.proofs.Answering.{given, not_given}

@@ -2,13 +2,13 @@ use Rattle.std.proofs.Common.{sym, ◌∙◌, arith, [], ◌∷◌, ◌++◌}
 use Rattle.step_structures.specs.declared.fault.FaultKind.TheVariants as kinds
 use Rattle.step_structures.specs.declared.fault.LeftOut.TheVariants as left_out
 use Rattle.step_structures.specs.Words.{located}
-use Rattle.step_lexis.specs.declared.token.Mark.TheVariants.{Semicolon}
+use Rattle.step_lexer.specs.declared.token.Mark.TheVariants.{Semicolon}
 use Rattle.step_structures.specs.Words.{mark}
 use Rattle.step_structures.specs.Trees.{this, items_of_heading}
-use Rattle.step_structures.specs.Predict.{Sections, Behind}
-use Rattle.step_records.specs.Readers.{reading}
+use Rattle.step_structures.specs.steps.Predict.{Sections, Behind}
+use Rattle.step_records.specs.steps.Readers.{reading}
 use Rattle.step_exchange.specs.Sections.{heading_of}
-use Rattle.step_exchange.specs.Steps.{section_refused}
+use Rattle.step_exchange.specs.steps.Steps.{section_refused}
 use Rattle.step_records.proofs.Taking.{stops_taken}
 use Rattle.step_exchange.proofs.DataSteps.{data_refused, data_too_many, begun, left_built}
 use Rattle.step_exchange.proofs.data.begin_section.Goals as goal

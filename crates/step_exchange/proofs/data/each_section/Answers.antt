@@ -1,6 +1,6 @@
 use Rattle.std.proofs.Common.{rules, sym, ◌≡◌, arith, length}
 use Rattle.std.proofs.lemmas.Result.{err_from_is_err_and}
-use Rattle.step_structures.specs.Predict.{Sections, EndOfText}
+use Rattle.step_structures.specs.steps.Predict.{Sections, EndOfText}
 use Rattle.step_exchange.specs.Sections.{heading_of}
 use Rattle.step_exchange.proofs.DataSteps.{is_end, isnt_end, no_sections, some_sections}
 use Rattle.step_exchange.proofs.DataKeeping.{data_start, data_err_token, data_err_none, data_err_end, data_done, data_err_begin, data_err_rows, data_next, data_less, data_few}

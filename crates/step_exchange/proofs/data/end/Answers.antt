@@ -1,8 +1,8 @@
 use Rattle.std.proofs.Common.{[], ◌∷◌}
 use Rattle.std.proofs.lemmas.Result.{err_from_is_err_and}
-use Rattle.step_lexis.specs.declared.token.Mark.TheVariants.{Semicolon}
-use Rattle.step_structures.specs.Predict.{Just, EndOfText}
-use Rattle.step_records.specs.Readers.{reading}
+use Rattle.step_lexer.specs.declared.token.Mark.TheVariants.{Semicolon}
+use Rattle.step_structures.specs.steps.Predict.{Just, EndOfText}
+use Rattle.step_records.specs.steps.Readers.{reading}
 use Rattle.step_exchange.proofs.DataSteps.{stops_first, end_done}
 use Rattle.step_exchange.proofs.data.end.Goals as goal
 

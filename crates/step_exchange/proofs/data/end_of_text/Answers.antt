@@ -1,12 +1,12 @@
 use Rattle.std.proofs.Common.{[], sym, ◌∙◌, ◌≡◌, subst, Some, None, Option, Ok}
-use Rattle.step_lexis.specs.Reading.{Answers, IsAtEnd, Reading, Takes}
-use Rattle.step_lexis.specs.declared.token.Token.{Token}
+use Rattle.step_lexer.specs.Reading.{Answers, IsAtEnd, Reading, Takes}
+use Rattle.step_lexer.specs.declared.token.Token.{Token}
 use Rattle.step_structures.specs.Words.{located, word_of}
-use Rattle.step_structures.specs.Predict.{EndOfText}
+use Rattle.step_structures.specs.steps.Predict.{EndOfText}
 use Rattle.step_structures.specs.declared.fault.FaultKind.TheVariants as kinds
 use Rattle.step_structures.specs.declared.fault.LeftOut.TheVariants as left_out
 use Rattle.step_records.proofs.Looking.{stops_flaw, stops_refused}
-use Rattle.step_records.specs.Readers.{reading}
+use Rattle.step_records.specs.steps.Readers.{reading}
 use Rattle.step_exchange.proofs.DataSteps.{stops_at, over_signature, over_refused, over_done}
 use Rattle.step_exchange.proofs.data.end_of_text.Goals as goal
 

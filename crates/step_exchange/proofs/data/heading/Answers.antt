@@ -1,10 +1,10 @@
 use Rattle.std.proofs.Common.{[], sym, ◌∙◌, ◌≡◌}
 use Rattle.std.proofs.lemmas.Result.{err_from_is_err_and}
 use Rattle.step_structures.specs.Words.{located}
-use Rattle.step_structures.specs.Predict.{Behind, EndOfText, refused, heading_symbols}
+use Rattle.step_structures.specs.steps.Predict.{Behind, EndOfText, refused, heading_symbols}
 use Rattle.step_records.proofs.Taking.{passes_join, stops_behind}
 use Rattle.step_exchange.proofs.DataSteps.{stops_at, behind_refused, passes_behind, passes_opened}
-use Rattle.step_records.specs.Readers.{reading}
+use Rattle.step_records.specs.steps.Readers.{reading}
 use Rattle.step_exchange.proofs.data.heading.Goals as goal
 
 pub returns-in_err-behind : goal.returns-in_err-behind

@@ -1,9 +1,9 @@
 use Rattle.std.proofs.Common.{[], ◌∷◌, ◌∙◌}
 use Rattle.std.proofs.lemmas.Result.{err_from_is_err_and}
-use Rattle.step_lexis.specs.declared.token.Mark.TheVariants.{Open, Close, Comma, Semicolon}
-use Rattle.step_structures.specs.Predict.{Just, Quoted}
+use Rattle.step_lexer.specs.declared.token.Mark.TheVariants.{Open, Close, Comma, Semicolon}
+use Rattle.step_structures.specs.steps.Predict.{Just, Quoted}
 use Rattle.step_records.proofs.Taking.{passes_then, passes_more, stops_behind, stops_all}
-use Rattle.step_records.specs.Readers.{reading}
+use Rattle.step_records.specs.steps.Readers.{reading}
 use Rattle.step_exchange.proofs.data.names.Goals as goal
 
 pub returns-in_err-name : goal.returns-in_err-name

@@ -1,9 +1,9 @@
 use Rattle.std.proofs.Common.{[], ◌≡◌}
 use Rattle.std.proofs.lemmas.Result.{err_from_is_err_and}
 use Rattle.step_structures.specs.Words.{located}
-use Rattle.step_structures.specs.Predict.{Quoted, EndOfText, refused}
+use Rattle.step_structures.specs.steps.Predict.{Quoted, EndOfText, refused}
 use Rattle.step_exchange.proofs.DataSteps.{stops_at, string_refused, passes_string}
-use Rattle.step_records.specs.Readers.{reading}
+use Rattle.step_records.specs.steps.Readers.{reading}
 use Rattle.step_exchange.proofs.data.string.Goals as goal
 
 pub returns-in_err-token : goal.returns-in_err-token

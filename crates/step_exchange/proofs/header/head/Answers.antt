@@ -1,11 +1,11 @@
 use Rattle.std.proofs.Common.{sym, ap, ◌∙◌}
 use Rattle.std.proofs.lemmas.Result.{err_from_is_err_and}
 use Rattle.step_structures.specs.Words.{token, word_of}
-use Rattle.step_structures.specs.Predict.{Head}
+use Rattle.step_structures.specs.steps.Predict.{Head}
 use Rattle.step_structures.specs.Trees.{leaf}
 use Rattle.step_records.proofs.Looking.{stops_refused}
 use Rattle.step_exchange.proofs.HeadSteps.{head_refused, head_fault, head_err}
-use Rattle.step_records.specs.Readers.{reading}
+use Rattle.step_records.specs.steps.Readers.{reading}
 use Rattle.step_exchange.proofs.HeadKeeping.{head_kept}
 use Rattle.step_exchange.proofs.header.head.Goals as goal
 

@@ -1,7 +1,7 @@
 use Rattle.std.proofs.Common.{length}
-use Rattle.step_lexis.specs.Reading.{left}
-use Rattle.step_records.specs.Readers.{reading}
-use Rattle.step_exchange.specs.Keeping.{KeepsSoFar}
+use Rattle.step_lexer.specs.Reading.{left}
+use Rattle.step_records.specs.steps.Readers.{reading}
+use Rattle.step_exchange.specs.steps.Keeping.{KeepsSoFar}
 use Rattle.step_exchange.proofs.header.header.Given as goal
 
 abbrev pub invariant-loop : goal.invariant-loop

@@ -1,5 +1,5 @@
 use Rattle.std.proofs.lemmas.Result.{err_from_is_err_and}
-use Rattle.step_records.specs.Readers.{reading}
+use Rattle.step_records.specs.steps.Readers.{reading}
 use Rattle.step_exchange.proofs.HeadSteps.{record_err_head, record_err_mark}
 use Rattle.step_exchange.proofs.HeadKeeping.{line_kept}
 use Rattle.step_exchange.proofs.header.line.Goals as goal

@@ -2,8 +2,8 @@ use Rattle.std.proofs.Common.{ap}
 use Rattle.std.proofs.lemmas.Result.{err_from_is_err_and}
 use Rattle.step_structures.specs.Words.{token, word_of}
 use Rattle.step_structures.specs.Trees.{leaf}
-use Rattle.step_structures.specs.Predict.{Records}
-use Rattle.step_records.specs.Readers.{reading}
+use Rattle.step_structures.specs.steps.Predict.{Records}
+use Rattle.step_records.specs.steps.Readers.{reading}
 use Rattle.step_records.proofs.Looking.{stops_refused}
 use Rattle.step_exchange.proofs.HeadSteps.{records_refused, more_err_keyed}
 use Rattle.step_exchange.proofs.HeadKeeping.{record_more, record_stops, records_over, is_keyed, is_over}

@@ -1,5 +1,5 @@
 use Rattle.std.proofs.lemmas.Result.{err_from_is_err_and}
-use Rattle.step_records.specs.Readers.{reading}
+use Rattle.step_records.specs.steps.Readers.{reading}
 use Rattle.step_exchange.proofs.HeadSteps.{opening_err_start}
 use Rattle.step_exchange.proofs.HeadKeeping.{first_stops, second_stops, third_stops, opening_kept}
 use Rattle.step_exchange.proofs.header.opening.Goals as goal

@@ -1,11 +1,11 @@
 use Rattle.std.proofs.Common.{sym, ap, ◌∙◌, ◌≡◌, subst}
 use Rattle.std.proofs.lemmas.Result.{err_from_is_err_and}
-use Rattle.step_records.specs.Building.{Building}
-use Rattle.step_records.specs.Tokens.{StandsIn, leaf_of}
-use Rattle.step_structures.specs.Predict.{Ended, EndOfText}
+use Rattle.step_records.specs.steps.Building.{Building}
+use Rattle.step_records.specs.steps.Tokens.{StandsIn, leaf_of}
+use Rattle.step_structures.specs.steps.Predict.{Ended, EndOfText}
 use Rattle.step_exchange.proofs.HeadSteps.{keyed_err_params, keyed_err_token, keyed_refused}
 use Rattle.step_exchange.proofs.HeadKeeping.{keyed_params, keyed_items, keyed_stops, keyed_over}
-use Rattle.step_records.specs.Readers.{reading}
+use Rattle.step_records.specs.steps.Readers.{reading}
 use Rattle.step_exchange.proofs.header.record_or_end.Goals as goal
 
 pub returns-in_err-record : goal.returns-in_err-record

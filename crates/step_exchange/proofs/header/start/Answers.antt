@@ -1,10 +1,10 @@
 use Rattle.std.proofs.Common.{ap, ◌≡◌, ◌∙◌}
 use Rattle.std.proofs.lemmas.Result.{err_from_is_err_and}
 use Rattle.step_structures.specs.Words.{token, word_of}
-use Rattle.step_structures.specs.Predict.{Start, EndOfText}
+use Rattle.step_structures.specs.steps.Predict.{Start, EndOfText}
 use Rattle.step_records.proofs.Looking.{stops_refused}
 use Rattle.step_exchange.proofs.HeadSteps.{start_refused, start_err, start_err_mark, start_err_word, start_err_last, start_done}
-use Rattle.step_records.specs.Readers.{reading}
+use Rattle.step_records.specs.steps.Readers.{reading}
 use Rattle.step_exchange.proofs.header.start.Goals as goal
 
 pub returns-in_err-first : goal.returns-in_err-first

@@ -1,13 +1,13 @@
 use Rattle.std.proofs.Common.{rules, take, length, ◌≡◌, ◌≤◌, ◌∙◌, ◌∷◌, sym, ap, arith}
 use Rattle.std.proofs.lemmas.List.{take_all}
-use Rattle.devices.specs.Prints.{Prints}
+use Rattle.devices.specs.steps.Prints.{Prints}
 use Rattle.step_literals.specs.Words.{upper}
 use Rattle.step_records.specs.Cells.{all_of}
 use Rattle.step_records.specs.Params.{node_value}
 use Rattle.step_records.proofs.Weights.{lighter}
 use Rattle.step_structures.specs.Normal.{plain_tree, plain_more}
 use Rattle.devices.proofs.Printing.{then_print, prints_as, prints_nothing, printing}
-use Rattle.merged_texts.specs.Merged.{led_tree, led_trees}
+use Rattle.step_structures.specs.MergedTexts.{led_tree, led_trees}
 use Rattle.step_exchange.proofs.Writing.{prints_at, lighter_behind}
 use Rattle.step_exchange.proofs.Printed.{led_more_push, led_first, no_led, literals_led}
 use Rattle.step_exchange.proofs.print.+params.Goals as goal

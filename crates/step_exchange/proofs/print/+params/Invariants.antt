@@ -1,10 +1,10 @@
 use Rattle.std.proofs.Common.{suc, take}
-use Rattle.devices.specs.Prints.{Prints}
+use Rattle.devices.specs.steps.Prints.{Prints}
 use Rattle.step_records.specs.Cells.{all_of}
 use Rattle.step_records.specs.Params.{node_value}
 use Rattle.step_records.proofs.Weights.{weight, weights}
 use Rattle.step_structures.specs.Normal.{plain_more}
-use Rattle.merged_texts.specs.Merged.{led_trees}
+use Rattle.step_structures.specs.MergedTexts.{led_trees}
 use Rattle.step_exchange.proofs.print.+params.Given as goal
 
 abbrev pub invariant-print_each-loop-i : goal.invariant-print_each-loop-i

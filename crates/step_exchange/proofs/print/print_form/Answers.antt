@@ -3,7 +3,7 @@ use Rattle.step_structures.specs.Trees.{Tree, external}
 use Rattle.step_exchange.specs.Views.{record_in, begins_with_keyword, form_of}
 use Rattle.step_structures.specs.Normal.{plain_form}
 use Rattle.devices.proofs.Printing.{then_print, prints_as}
-use Rattle.merged_texts.specs.Merged.{led_form}
+use Rattle.step_structures.specs.MergedTexts.{led_form}
 use Rattle.step_exchange.proofs.print.print_form.Goals as goal
 
 partials : (xs : List Tree) → begins_with_keyword xs ≡ false → form_of xs ≡ external (map record_in xs)

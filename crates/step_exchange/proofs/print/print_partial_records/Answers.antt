@@ -3,7 +3,7 @@ use Rattle.step_exchange.specs.Views.{record_of, record_in}
 use Rattle.step_structures.specs.Normal.{plain_record, plain_partial_records}
 use Rattle.devices.proofs.Printing.{prints_as}
 use Rattle.step_exchange.proofs.Writing.{prints_at}
-use Rattle.merged_texts.specs.Merged.{led_record}
+use Rattle.step_structures.specs.MergedTexts.{led_record}
 use Rattle.step_exchange.proofs.Printed.{led_partials_push}
 use Rattle.step_exchange.proofs.print.print_partial_records.Goals as goal
 

@@ -1,8 +1,8 @@
 use Rattle.std.proofs.Common.{take, map}
-use Rattle.devices.specs.Prints.{Prints}
+use Rattle.devices.specs.steps.Prints.{Prints}
 use Rattle.step_exchange.specs.Views.{record_in}
 use Rattle.step_structures.specs.Normal.{plain_partial_records}
-use Rattle.merged_texts.specs.Merged.{led_record}
+use Rattle.step_structures.specs.MergedTexts.{led_record}
 use Rattle.step_exchange.proofs.print.print_partial_records.Given as goal
 
 abbrev pub invariant-loop-i : goal.invariant-loop-i

@@ -3,7 +3,7 @@ use Rattle.step_records.specs.Cells.{all_of}
 use Rattle.step_literals.specs.Words.{upper}
 use Rattle.step_structures.specs.Normal.{plain_trees}
 use Rattle.devices.proofs.Printing.{then_print, prints_as}
-use Rattle.merged_texts.specs.Merged.{led_trees}
+use Rattle.step_structures.specs.MergedTexts.{led_trees}
 use Rattle.step_exchange.proofs.SchemaNames.{values_behind}
 use Rattle.step_exchange.proofs.print.print_parts.Goals as goal
 

@@ -1,5 +1,5 @@
 use Rattle.std.proofs.Common.{take}
-use Rattle.devices.specs.Prints.{Prints}
+use Rattle.devices.specs.steps.Prints.{Prints}
 use Rattle.step_literals.specs.Words.{upper}
 use Rattle.step_exchange.proofs.print.print_raised.Given as goal
 

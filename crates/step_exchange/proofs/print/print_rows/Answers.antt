@@ -2,7 +2,7 @@ use Rattle.std.proofs.Common.{◌≡◌, Some, get_or, slice_get, sym, ap, ◌�
 use Rattle.std.proofs.lemmas.Option.{slice_get-get_or}
 use Rattle.step_structures.specs.Normal.{plain_rows}
 use Rattle.devices.proofs.Printing.{then_print, prints_as}
-use Rattle.merged_texts.specs.Merged.{merged_rows}
+use Rattle.step_structures.specs.MergedTexts.{merged_rows}
 use Rattle.step_exchange.proofs.Writing.{rows_all, rows_short}
 use Rattle.step_exchange.proofs.Printed.{led_rows_push}
 use Rattle.step_exchange.proofs.print.print_rows.Goals as goal

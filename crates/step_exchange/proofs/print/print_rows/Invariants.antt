@@ -1,8 +1,8 @@
 use Rattle.std.proofs.Common.{take}
-use Rattle.devices.specs.Prints.{Prints}
+use Rattle.devices.specs.steps.Prints.{Prints}
 use Rattle.step_exchange.specs.Views.{rows_with}
 use Rattle.step_structures.specs.Normal.{plain_rows}
-use Rattle.merged_texts.specs.Merged.{merged_rows}
+use Rattle.step_structures.specs.MergedTexts.{merged_rows}
 use Rattle.step_exchange.proofs.print.print_rows.Given as goal
 
 abbrev pub invariant-loop-i : goal.invariant-loop-i

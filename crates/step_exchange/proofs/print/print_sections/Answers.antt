@@ -4,7 +4,7 @@ use Rattle.step_exchange.specs.Views.{rows_with}
 use Rattle.step_exchange.specs.Sections.{heading_of, sections_of}
 use Rattle.step_structures.specs.Normal.{plain_section, plain_sections}
 use Rattle.devices.proofs.Printing.{then_print, prints_as, prints_nothing}
-use Rattle.merged_texts.specs.Merged.{merged_section, merged_sections}
+use Rattle.step_structures.specs.MergedTexts.{merged_section, merged_sections}
 use Rattle.step_exchange.proofs.Cuts.{drop_next}
 use Rattle.step_exchange.proofs.Printed.{led_sections_printed}
 use Rattle.step_exchange.proofs.print.print_sections.Goals as goal

@@ -1,9 +1,9 @@
 use Rattle.std.proofs.Common.{◌≡◌, ◌++◌, List, ℕ, drop}
-use Rattle.devices.specs.Prints.{Prints}
+use Rattle.devices.specs.steps.Prints.{Prints}
 use Rattle.step_exchange.specs.Views.{rows_with}
 use Rattle.step_exchange.specs.Sections.{sections_of}
 use Rattle.step_structures.specs.Normal.{plain_sections}
-use Rattle.merged_texts.specs.Merged.{merged_sections}
+use Rattle.step_structures.specs.MergedTexts.{merged_sections}
 use Rattle.step_exchange.proofs.print.print_sections.Given as goal
 
 abbrev pub invariant-loop-section : goal.invariant-loop-section

@@ -2,7 +2,7 @@ use Rattle.std.proofs.Common.{drop, ap, ◌∙◌}
 use Rattle.step_exchange.specs.Views.{rows_with}
 use Rattle.step_exchange.specs.Sections.{sections_of}
 use Rattle.step_structures.specs.Normal.{plain_sections}
-use Rattle.merged_texts.specs.Merged.{merged_sections}
+use Rattle.step_structures.specs.MergedTexts.{merged_sections}
 use Rattle.devices.proofs.Printing.{then_print, prints_as, emits_all}
 use Rattle.step_exchange.proofs.print.write_led.Goals as goal
 

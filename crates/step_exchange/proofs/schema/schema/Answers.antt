@@ -1,10 +1,10 @@
 use Rattle.std.proofs.Common.{sym, ap, refl, ◌∙◌, ◌≡◌, false, Bool, IsTrue}
 use Rattle.std.proofs.lemmas.Bool.{false≢true}
 use Rattle.std.proofs.lemmas.Result.{err_from_is_err_and}
-use Rattle.step_lexis.specs.declared.token.Mark.TheVariants.{Semicolon}
+use Rattle.step_lexer.specs.declared.token.Mark.TheVariants.{Semicolon}
 use Rattle.step_structures.specs.Words.{located}
-use Rattle.step_structures.specs.Predict.{Just, EndOfText}
-use Rattle.step_records.specs.Readers.{reading}
+use Rattle.step_structures.specs.steps.Predict.{Just, EndOfText}
+use Rattle.step_records.specs.steps.Readers.{reading}
 use Rattle.step_records.proofs.Looking.{stops_refused, mark_refused}
 use Rattle.step_exchange.proofs.HeadSteps.{schema_err, schema_err_mark, schema_unnamed}
 use Rattle.step_exchange.proofs.HeadKeeping.{schema_kept}

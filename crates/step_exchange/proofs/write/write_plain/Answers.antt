@@ -4,7 +4,7 @@ use Rattle.devices.specs.Emits.{Emits}
 use Rattle.step_structures.specs.Normal.{plain_text}
 use Rattle.step_structures.proofs.NormalReads.{normal_reads_again}
 use Rattle.step_exchange.specs.Exchanges.{structure}
-use Rattle.merged_texts.proofs.Unmerged.{sections_stay}
+use Rattle.step_structures.proofs.Unmerged.{sections_stay}
 use Rattle.step_exchange.proofs.write.write_plain.Goals as goal
 
 pub returns-clause-emits : goal.returns-clause-emits

@@ -2,7 +2,7 @@ use Rattle.std.proofs.Common.{◌≡◌, ◌<◌, ◌≤◌, ◌∙◌, sym, ap,
 use Rattle.std.proofs.lemmas.Bool.Decides.{nat_tests}
 use Rattle.std.proofs.Math.Utf8.{encode}
 use Rattle.step_literals.specs.Strings.{clean}
-use Rattle.step_literals.specs.Characters.{BeginsCharacter}
+use Rattle.step_literals.specs.steps.Characters.{BeginsCharacter}
 use Rattle.step_literals.proofs.CharacterLemmas.{window_none, window_some, none_high}
 use Rattle.step_literals.proofs.characters.character_at.Goals as goal
 

@@ -1,7 +1,7 @@
 use Rattle.std.proofs.Common.{◌≡◌, length}
 use Rattle.std.specs.Str.{is_utf8}
 use Rattle.step_literals.specs.Strings.{clean}
-use Rattle.step_literals.specs.Characters.{high_run}
+use Rattle.step_literals.specs.steps.Characters.{high_run}
 use Rattle.step_literals.proofs.characters.is_utf8_run.Given as goal
 
 abbrev pub invariant-loop-after : goal.invariant-loop-after

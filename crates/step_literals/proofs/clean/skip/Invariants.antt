@@ -1,4 +1,4 @@
-use Rattle.step_literals.specs.Directives.{Skips}
+use Rattle.step_literals.specs.steps.Directives.{Skips}
 use Rattle.step_literals.proofs.clean.skip.Given as goal
 
 abbrev pub invariant-loop : goal.invariant-loop

@@ -1,6 +1,6 @@
 use Rattle.std.proofs.Common.{◌≡◌, ◌++◌, take}
 use Rattle.step_literals.specs.Strings.{clean}
-use Rattle.step_literals.specs.Directives.{Skips}
+use Rattle.step_literals.specs.steps.Directives.{Skips}
 use Rattle.step_literals.proofs.clean.strip.Given as goal
 
 -- what is passed of the text is passed of the bytes

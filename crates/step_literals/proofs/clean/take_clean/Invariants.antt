@@ -1,5 +1,5 @@
 use Rattle.std.proofs.Common.{length}
-use Rattle.step_literals.specs.Directives.{Skips}
+use Rattle.step_literals.specs.steps.Directives.{Skips}
 use Rattle.step_literals.proofs.clean.take_clean.Given as goal
 
 -- nothing from 32 up is passed

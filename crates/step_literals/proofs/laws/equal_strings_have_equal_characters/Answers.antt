@@ -1,4 +1,4 @@
-use Rattle.step_literals.specs.ItemKeyLemmas.{texts_are_their_items}
+use Rattle.step_literals.specs.steps.ItemKeyLemmas.{texts_are_their_items}
 use Rattle.step_literals.proofs.laws.equal_strings_have_equal_characters.Goals as goal
 
 pub returns : goal.returns

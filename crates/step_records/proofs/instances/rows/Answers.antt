@@ -1,7 +1,7 @@
 use Rattle.std.proofs.Common.{sym, ap, ◌∙◌, ◌≡◌, ◌++◌, ◌∷◌, []}
 use Rattle.std.proofs.lemmas.Result.{err_from_is_err_and}
-use Rattle.step_structures.specs.Predict.{Rows, EndOfText}
-use Rattle.step_records.specs.Readers.{reading}
+use Rattle.step_structures.specs.steps.Predict.{Rows, EndOfText}
+use Rattle.step_records.specs.steps.Readers.{reading}
 use Rattle.step_records.proofs.RowSteps.{rows_err_token, rows_err_name, rows_err_row, rows_err_end}
 use Rattle.step_records.proofs.Instancing.{instances_begin, instances_next, instances_end, instances_less}
 use Rattle.step_records.proofs.instances.rows.Goals as goal

@@ -1,6 +1,6 @@
 use Rattle.std.proofs.Common.{length}
-use Rattle.step_lexis.specs.Reading.{left}
-use Rattle.step_records.specs.Readers.{reading}
+use Rattle.step_lexer.specs.Reading.{left}
+use Rattle.step_records.specs.steps.Readers.{reading}
 use Rattle.step_records.proofs.Instancing.{InstancesSoFar}
 use Rattle.step_records.proofs.instances.rows.Given as goal
 

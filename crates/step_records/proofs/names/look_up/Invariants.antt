@@ -1,5 +1,5 @@
 use Rattle.std.proofs.Common.{◌-◌, length}
-use Rattle.step_records.specs.Names.{AreFirst}
+use Rattle.step_records.specs.steps.Names.{AreFirst}
 use Rattle.step_records.proofs.names.look_up.Given as goal
 
 abbrev pub invariant-loop-looked_up : goal.invariant-loop-looked_up

@@ -1,9 +1,9 @@
 use Rattle.std.proofs.Common.{refl, sym, ap, ◌∙◌, ◌≡◌}
 use Rattle.std.proofs.lemmas.Result.{err_from_is_err_and}
 use Rattle.step_structures.specs.Words.{token}
-use Rattle.step_structures.specs.Predict.{Value, Items, EndOfText}
+use Rattle.step_structures.specs.steps.Predict.{Value, Items, EndOfText}
 use Rattle.step_records.specs.Cells.{all_of}
-use Rattle.step_records.specs.Readers.{reading}
+use Rattle.step_records.specs.steps.Readers.{reading}
 use Rattle.step_records.proofs.ParamSteps.{inner_err_first, inner_err_close, items_err_first, items_err_token, items_err_next, items_smaller, typed_err}
 use Rattle.step_records.proofs.Pushing.{pushed_item, not_pushed, next_begins, not_begun, list_taken, list_stops, item_taken, first_taken, item_err_value, begins_some, begins_none, items_empty, items_begin, items_go_on, items_end, a_comma, a_close, inner_whole, typed_whole, keyword_leaf}
 use Rattle.step_records.proofs.params.+params.Goals as goal

@@ -1,6 +1,6 @@
 use Rattle.std.proofs.Common.{◌+◌, ◌*◌, ◌-◌, length}
-use Rattle.step_lexis.specs.Reading.{left}
-use Rattle.step_records.specs.Readers.{reading}
+use Rattle.step_lexer.specs.Reading.{left}
+use Rattle.step_records.specs.steps.Readers.{reading}
 use Rattle.step_records.proofs.Pushing.{ItemsSoFar}
 use Rattle.step_records.proofs.params.+params.Given as goal
 

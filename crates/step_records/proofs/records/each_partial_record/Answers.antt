@@ -6,10 +6,10 @@ use Rattle.std.proofs.lemmas.Result.{err_from_is_err_and}
 use Rattle.step_literals.specs.declared.literal.Word.{Word}
 use Rattle.step_structures.specs.Words.{located}
 use Rattle.step_structures.specs.Fits.{has_keyword}
-use Rattle.step_structures.specs.Predict.{PartialRecords, EndOfText}
-use Rattle.step_records.specs.Readers.{reading}
-use Rattle.step_records.specs.Records.{texts_of, keywords_of, TakesPartial}
-use Rattle.step_records.specs.Steps.{StopsIn}
+use Rattle.step_structures.specs.steps.Predict.{PartialRecords, EndOfText}
+use Rattle.step_records.specs.steps.Readers.{reading}
+use Rattle.step_records.specs.steps.Records.{texts_of, keywords_of, TakesPartial}
+use Rattle.step_records.specs.steps.Steps.{StopsIn}
 use Rattle.step_records.proofs.RecordSteps.{has_keyword_any}
 use Rattle.step_records.proofs.RecordKeywords.{says}
 use Rattle.step_records.proofs.Recording.{partials_go_on, partials_end, partials_err_read, partials_err_one, partials_none, partials_less}

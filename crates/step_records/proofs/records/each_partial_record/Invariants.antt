@@ -1,6 +1,6 @@
 use Rattle.std.proofs.Common.{◌≡◌, length, drop}
-use Rattle.step_lexis.specs.Reading.{left}
-use Rattle.step_records.specs.Readers.{reading}
+use Rattle.step_lexer.specs.Reading.{left}
+use Rattle.step_records.specs.steps.Readers.{reading}
 use Rattle.step_records.proofs.Recording.{PartialsSoFar}
 use Rattle.step_records.proofs.records.each_partial_record.Given as goal
 

@@ -1,8 +1,8 @@
 use Rattle.std.proofs.Common.{sym, ap, ◌∙◌}
 use Rattle.step_structures.specs.Trees.{leaf}
 use Rattle.step_structures.specs.Words.{token, word_of}
-use Rattle.step_structures.specs.Predict.{Body}
-use Rattle.step_records.specs.Readers.{reading}
+use Rattle.step_structures.specs.steps.Predict.{Body}
+use Rattle.step_records.specs.steps.Readers.{reading}
 use Rattle.step_records.proofs.RecordSteps.{body_refused}
 use Rattle.step_records.proofs.Looking.{stops_refused}
 use Rattle.step_records.proofs.Recording.{form_partials, form_record}

@@ -2,8 +2,8 @@ use Rattle.std.proofs.Common.{sym, ap, ◌∙◌}
 use Rattle.std.proofs.lemmas.Result.{err_from_is_err_and}
 use Rattle.step_structures.specs.Trees.{leaf}
 use Rattle.step_structures.specs.Words.{token, word_of}
-use Rattle.step_records.specs.Readers.{reading}
-use Rattle.step_records.specs.Records.{texts_of}
+use Rattle.step_records.specs.steps.Readers.{reading}
+use Rattle.step_records.specs.steps.Records.{texts_of}
 use Rattle.step_records.proofs.RecordSteps.{has_keyword_any, partial_twice, partial_err}
 use Rattle.step_records.proofs.Recording.{partial_whole}
 use Rattle.step_records.proofs.records.partial_record.Goals as goal

@@ -1,5 +1,5 @@
 use Rattle.std.proofs.lemmas.Result.{err_from_is_err_and}
-use Rattle.step_records.specs.Readers.{reading}
+use Rattle.step_records.specs.steps.Readers.{reading}
 use Rattle.step_records.proofs.RecordSteps.{row_err_form, row_err_end}
 use Rattle.step_records.proofs.Recording.{row_whole}
 use Rattle.step_records.proofs.records.row.Goals as goal

@@ -1,7 +1,7 @@
 use Rattle.std.proofs.Common.{List, ◌+◌, take}
 use Rattle.step_records.specs.declared.cell.Cell.{Cell}
-use Rattle.step_records.specs.Building.{kept_by}
-use Rattle.step_records.specs.Places.{AreStanding}
+use Rattle.step_records.specs.steps.Building.{kept_by}
+use Rattle.step_records.specs.steps.Places.{AreStanding}
 use Rattle.step_records.proofs.stretch.joined.Given as goal
 
 abbrev pub invariant-loop-cell : goal.invariant-loop-cell

@@ -1,5 +1,5 @@
 use Rattle.std.proofs.Common.{refl, []}
-use Rattle.step_records.specs.Building.{kept_by}
+use Rattle.step_records.specs.steps.Building.{kept_by}
 use Rattle.step_records.proofs.Joined.{list_stands}
 use Rattle.step_records.proofs.stretch.list_place.Goals as goal
 

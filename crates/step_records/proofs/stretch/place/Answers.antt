@@ -1,7 +1,7 @@
 use Rattle.std.proofs.Common.{subst}
 use Rattle.parsing.specs.Nodes.{said_at}
 use Rattle.step_records.specs.Cells.{parameters}
-use Rattle.step_records.specs.Places.{Stands}
+use Rattle.step_records.specs.steps.Places.{Stands}
 use Rattle.step_records.proofs.Joined.{list_says, list_text, some_else}
 use Rattle.step_records.proofs.stretch.place.Goals as goal
 

@@ -1,6 +1,6 @@
 use Rattle.std.proofs.Common.{◌+◌, take}
-use Rattle.step_records.specs.Building.{kept_by}
-use Rattle.step_records.specs.Places.{AreStanding}
+use Rattle.step_records.specs.steps.Building.{kept_by}
+use Rattle.step_records.specs.steps.Places.{AreStanding}
 use Rattle.step_records.proofs.stretch.side_by_side.Given as goal
 
 abbrev pub invariant-loop-cell : goal.invariant-loop-cell

@@ -1,4 +1,4 @@
-use Rattle.step_records.specs.Readers.{reading}
+use Rattle.step_records.specs.steps.Readers.{reading}
 use Rattle.step_records.proofs.Looking.{mark_shown, passes_mark}
 use Rattle.step_records.proofs.tokens.expect.Goals as goal
 

@@ -1,7 +1,7 @@
 use Rattle.std.proofs.Common.{sym, ◌∙◌}
-use Rattle.step_structures.specs.Predict.{Just}
+use Rattle.step_structures.specs.steps.Predict.{Just}
 use Rattle.step_structures.specs.Words.{located}
-use Rattle.step_records.specs.Readers.{reading}
+use Rattle.step_records.specs.steps.Readers.{reading}
 use Rattle.step_records.proofs.Looking.{mark_refused, passes_mark, stops_refused}
 use Rattle.step_records.proofs.tokens.expect_any.Goals as goal
 

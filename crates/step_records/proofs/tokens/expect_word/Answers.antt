@@ -1,7 +1,7 @@
 use Rattle.std.proofs.Common.{sym, ◌∙◌}
-use Rattle.step_structures.specs.Predict.{Say}
+use Rattle.step_structures.specs.steps.Predict.{Say}
 use Rattle.step_structures.specs.Words.{located}
-use Rattle.step_records.specs.Readers.{reading}
+use Rattle.step_records.specs.steps.Readers.{reading}
 use Rattle.step_records.proofs.Looking.{word_refused, passes_word, stops_refused}
 use Rattle.step_records.proofs.tokens.expect_word.Goals as goal
 

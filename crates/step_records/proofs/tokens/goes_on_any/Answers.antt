@@ -1,7 +1,7 @@
 use Rattle.std.proofs.Common.{sym, ◌∙◌}
 use Rattle.step_structures.specs.Words.{located}
-use Rattle.step_structures.specs.Predict.{More}
-use Rattle.step_records.specs.Readers.{reading}
+use Rattle.step_structures.specs.steps.Predict.{More}
+use Rattle.step_records.specs.steps.Readers.{reading}
 use Rattle.step_records.proofs.Looking.{stops_refused}
 use Rattle.step_records.proofs.ParamSteps.{more_refused}
 use Rattle.step_records.proofs.tokens.goes_on_any.Goals as goal

@@ -1,7 +1,7 @@
 use Rattle.std.proofs.Common.{Some, None, Option, Ok, ◌≡◌}
-use Rattle.step_lexis.specs.Reading.{Answers, IsAtEnd, Reading}
-use Rattle.step_lexis.specs.declared.token.Token.{Token}
-use Rattle.step_records.specs.Readers.{reading}
+use Rattle.step_lexer.specs.Reading.{Answers, IsAtEnd, Reading}
+use Rattle.step_lexer.specs.declared.token.Token.{Token}
+use Rattle.step_records.specs.steps.Readers.{reading}
 use Rattle.step_records.proofs.Looking.{stops_end, stops_flaw}
 use Rattle.step_records.proofs.tokens.take.Goals as goal
 

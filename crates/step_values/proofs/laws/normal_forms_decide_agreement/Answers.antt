@@ -1,7 +1,7 @@
-use Rattle.step_values.specs.Values.{bag}
-use Rattle.step_values.specs.ComputedLabels.{labelled, each_labelled, within, same_by, same_each_by}
+use Rattle.step_values.specs.Values.{bag, is_crowd}
+use Rattle.step_values.specs.LabelledValues.{labelled, each_labelled, placed, same_by, same_each_by}
 use Rattle.std.proofs.Common.{◌∙◌}
-use Rattle.step_values.proofs.Labelled.{same_labelled, same_each_labelled, bags_labelled, same_decides, same_each_decides, decided}
+use Rattle.step_values.proofs.Labelled.{same_labelled, same_each_labelled, same_decides, same_each_decides, decided}
 use Rattle.step_values.proofs.NormalForms.{forms_same, lists_same, sorted_same}
 use Rattle.step_values.proofs.laws.normal_forms_decide_agreement.Goals as goal
 
@@ -12,5 +12,6 @@ returns c = (
   λ f g vs ws ms ns p q. decided _ (same_each_by f g vs ws) (same_each_decides f g vs ws)
       (lists_same (each_labelled f vs) (each_labelled g ws) ms ns p q ∙ same_each_labelled f g vs ws),
   λ f g vs ws ms ns p q. decided _ (same_by f g (bag vs) (bag ws)) (same_decides f g (bag vs) (bag ws))
-      (sorted_same (each_labelled (within f) vs) (each_labelled (within g) ws) ms ns p q ∙ bags_labelled f g vs ws),
+      (sorted_same (each_labelled (placed (is_crowd vs) f) vs) (each_labelled (placed (is_crowd ws) g) ws) ms ns p q
+      ∙ same_labelled f g (bag vs) (bag ws)),
 )

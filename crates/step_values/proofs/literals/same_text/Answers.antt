@@ -1,6 +1,6 @@
 use Rattle.std.proofs.Common.{◌≡◌, ◌∙◌, ap}
 use Rattle.step_literals.specs.Items.{text_items}
-use Rattle.step_literals.specs.ItemKeyLemmas.{texts_are_their_items}
+use Rattle.step_literals.specs.steps.ItemKeyLemmas.{texts_are_their_items}
 use Rattle.step_values.specs.Leaves.{text}
 use Rattle.step_values.proofs.Deciding.{same_bool, leaf_decides}
 use Rattle.step_values.proofs.literals.same_text.Goals as goal

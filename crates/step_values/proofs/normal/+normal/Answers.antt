@@ -1,5 +1,5 @@
 use Rattle.std.proofs.Common.{◌≡◌, arith}
-use Rattle.step_values.specs.ComputedLabels.{placed}
+use Rattle.step_values.specs.LabelledValues.{placed}
 use Rattle.step_values.proofs.Walks.{collected_more, collected_all}
 use Rattle.step_values.proofs.Weights.{weight_of, lighter}
 use Rattle.step_values.proofs.normal.+normal.Goals as goal

@@ -1,6 +1,6 @@
 use Rattle.std.proofs.Common.{suc}
-use Rattle.step_values.specs.ComputedLabels.{placed}
-use Rattle.step_values.specs.Slots.{node_value}
+use Rattle.step_values.specs.LabelledValues.{placed}
+use Rattle.step_values.specs.steps.Slots.{node_value}
 use Rattle.step_values.proofs.Walks.{Collects}
 use Rattle.step_values.proofs.Weights.{weight, weight_of}
 use Rattle.step_values.proofs.normal.+normal.Given as goal
@@ -14,8 +14,8 @@ decreases-node_form g l = weight (node_value l.node.now)
 abbrev pub decreases-forms : goal.decreases-forms
 decreases-forms g l = weight_of l.values.now
 
-abbrev pub decreases-sorted_forms : goal.decreases-sorted_forms
-decreases-sorted_forms g l = suc (weight_of l.values.now)
+abbrev pub decreases-members : goal.decreases-members
+decreases-members g l = suc (weight_of l.values.now)
 
 abbrev pub invariant-forms-loop-i : goal.invariant-forms-loop-i
 invariant-forms-loop-i g l = Collects (placed l.in_bag (g.F.Labels.labelling l.f)) l.values l.i l.forms.items

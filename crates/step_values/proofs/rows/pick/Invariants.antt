@@ -1,5 +1,5 @@
 use Rattle.std.proofs.Common.{◌≡◌, take}
-use Rattle.step_values.specs.Ordering.{cells_at}
+use Rattle.step_values.specs.steps.Ordering.{cells_at}
 use Rattle.step_values.proofs.rows.pick.Given as goal
 
 abbrev pub invariant-loop-position : goal.invariant-loop-position

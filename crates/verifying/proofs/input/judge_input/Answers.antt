@@ -3,8 +3,8 @@ use Rattle.std.proofs.lemmas.Result.{err_from_is_err_and}
 use Rattle.conformance.specs.Choices.{chosen_names}
 use Rattle.step_exchange.specs.Exchanges.{structure}
 use Rattle.schema_names.specs.Schemas.{the_schema}
-use Rattle.ruled_populations.specs.Checking.{ChecksFile}
-use Rattle.verifying.specs.Verifying.{IsInput}
+use Rattle.file_findings.specs.steps.Checking.{ChecksFile}
+use Rattle.verifying.specs.Verifying.{IsConformingInput}
 use Rattle.verifying.proofs.input.judge_input.Goals as goal
 
 pub returns-in_err-checked-clause-finds : goal.returns-in_err-checked-clause-finds
@@ -25,7 +25,7 @@ returns-in-Clean-clause-finds c schema input header_bytes choice settles are rea
     let f = structure c.args.exchange.now in
     let names = chosen_names s choice in
     let clean = subst (ChecksFile s f c.args.chosen.now) c.in-Clean.is c.in_ok-checked.ensures in
-    let input_is : IsInput s input f = record {
+    let input_is : IsConformingInput s input f = record {
       header_bytes = header_bytes;
       reads = reads;
       some = clean.nothing.0;

@@ -1,7 +1,7 @@
 use Rattle.std.proofs.Common.{subst, sym, Err, ◌∙◌}
 use Rattle.std.proofs.lemmas.Result.{err_from_is_err_and}
 use Rattle.schema_names.specs.Schemas.{the_schema}
-use Rattle.faults.specs.Faults.{of_file}
+use Rattle.reports.specs.Faults.{of_file}
 use Rattle.verifying.specs.Verifying.{Verifies}
 use Rattle.verifying.proofs.Answering.{unread_input}
 use Rattle.verifying.proofs.input.verify_input.Goals as goal

@@ -1,7 +1,7 @@
 use Rattle.std.proofs.Common.{IfOk, subst}
 use Rattle.step_exchange.specs.Exchanges.{structure}
 use Rattle.schema_names.specs.Schemas.{the_schema}
-use Rattle.verifying.specs.ComputedPassing.{IsJudgement, IsReady}
+use Rattle.verifying.specs.steps.ComputedPassing.{IsJudgement, IsReady}
 use Rattle.verifying.proofs.Comparing.{held_back}
 use Rattle.verifying.proofs.output.answer.Goals as goal
 

@@ -3,7 +3,7 @@ use Rattle.std.proofs.lemmas.Bool.{false≢true}
 use Rattle.std.proofs.lemmas.Result.{err_from_is_err_and}
 use Rattle.step_exchange.specs.Exchanges.{structure}
 use Rattle.schema_names.specs.Schemas.{the_schema}
-use Rattle.population_typed.specs.Seen.{population_seen}
+use Rattle.typed_populations.specs.PopulationViews.{population_seen}
 use Rattle.verifying.proofs.Comparing.{no_image, comes}
 use Rattle.verifying.proofs.output.compare.Goals as goal
 

@@ -2,9 +2,9 @@ use Rattle.std.proofs.Common.{Ok, Err, subst}
 use Rattle.std.proofs.lemmas.Result.{err_from_is_err_and}
 use Rattle.step_exchange.specs.Exchanges.{structure}
 use Rattle.schema_names.specs.Schemas.{the_schema}
-use Rattle.population_typed.specs.Seen.{population_seen}
-use Rattle.step_population.specs.Verdicts.{IsVerdict}
-use Rattle.verifying.specs.ComputedPassing.{AnswersTyped}
+use Rattle.typed_populations.specs.PopulationViews.{population_seen}
+use Rattle.population_reader.specs.Verdicts.{IsVerdict}
+use Rattle.verifying.specs.steps.ComputedPassing.{AnswersTyped}
 use Rattle.verifying.proofs.Answering.{refused, proved}
 use Rattle.verifying.proofs.output.verify_image.Goals as goal
 

@@ -1,6 +1,6 @@
 use Rattle.std.proofs.Common.{subst, sym, Err, ◌∙◌}
 use Rattle.schema_names.specs.Schemas.{the_schema}
-use Rattle.faults.specs.Faults.{of_file}
+use Rattle.reports.specs.Faults.{of_file}
 use Rattle.verifying.specs.Verifying.{Verifies}
 use Rattle.verifying.proofs.Answering.{unread_output}
 use Rattle.verifying.proofs.output.verify_output.Goals as goal

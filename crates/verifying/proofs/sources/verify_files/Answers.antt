@@ -1,6 +1,6 @@
 use Rattle.std.proofs.Common.{inl, inr, refl, sym, ◌∙◌}
 use Rattle.files.specs.declared.fault.Role.TheVariants as roles
-use Rattle.pin_choices.specs.Chosen.{choice_of}
+use Rattle.merge_choices.specs.ChosenEntities.{choice_of}
 use Rattle.verifying.proofs.Reading.{no_device}
 use Rattle.verifying.proofs.sources.verify_files.Goals as goal
 

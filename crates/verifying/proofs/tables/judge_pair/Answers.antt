@@ -1,8 +1,8 @@
 use Rattle.std.proofs.Common.{refl}
 use Rattle.std.proofs.lemmas.Result.{err_from_is_err_and}
-use Rattle.step_equal.specs.TableViews.{table_of}
-use Rattle.step_pins.specs.Pinned.{is_pinned}
-use Rattle.conformance.specs.Said.{instances}
+use Rattle.value_equality.specs.TableViews.{table_of}
+use Rattle.population_pins.specs.PopulationPins.{is_pinned}
+use Rattle.conformance.specs.SchemaMeanings.{instances}
 use Rattle.verifying.proofs.Judging.{lack, hold}
 use Rattle.verifying.proofs.tables.judge_pair.Goals as goal
 

@@ -1,7 +1,7 @@
 use Rattle.std.proofs.Common.{inl}
 use Rattle.std.proofs.lemmas.Result.{err_from_is_err_and}
-use Rattle.step_equal.specs.TableViews.{table_of}
-use Rattle.step_pins.specs.Pinned.{is_pinned}
+use Rattle.value_equality.specs.TableViews.{table_of}
+use Rattle.population_pins.specs.PopulationPins.{is_pinned}
 use Rattle.verifying.proofs.Judging.{valid_first, valid_same}
 use Rattle.verifying.proofs.tables.judge_tables.Goals as goal
 

@@ -1,9 +1,9 @@
 use Rattle.std.proofs.Common.{◌≡◌, None, subst, sym, Err}
 use Rattle.express_syntax.specs.SchemaViews.{schema_of}
 use Rattle.conformance.specs.Choices.{chosen_names, unknown_choice}
-use Rattle.pin_choices.specs.Chosen.{choice_of, AreChosen, AreOfEntities, IsChoiceFault}
+use Rattle.merge_choices.specs.ChosenEntities.{choice_of, AreChosen, AreOfEntities, IsChoiceFault}
 use Rattle.verifying.specs.Verifying.{Verifies}
-use Rattle.verifying.specs.ComputedPassing.{AnswersSettled}
+use Rattle.verifying.specs.steps.ComputedPassing.{AnswersSettled}
 use Rattle.verifying.proofs.Answering.{unread_schema, unresolved, unsettled}
 use Rattle.verifying.proofs.verify.verify.Goals as goal
 

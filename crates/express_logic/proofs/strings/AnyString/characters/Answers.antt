@@ -1,6 +1,6 @@
 use Rattle.std.proofs.Common.{sym, ap, ◌∙◌}
 use Rattle.step_literals.specs.Strings.{content_of}
-use Rattle.express_lexis.specs.Doubled.{undoubled}
+use Rattle.express_lexer.specs.DoubledApostrophes.{undoubled}
 use Rattle.express_logic.specs.Views.{text_of}
 use Rattle.express_logic.proofs.Spelt.{simple_is, encoded_is}
 use Rattle.express_logic.proofs.strings.AnyString.characters.Goals as goal

@@ -1,6 +1,6 @@
 use Rattle.std.proofs.Common.{◌∷◌, ◌++◌}
 use Rattle.step_literals.specs.Words.{upper}
-use Rattle.express_logic.specs.Left.{characters_left}
+use Rattle.express_logic.specs.steps.Left.{characters_left}
 use Rattle.express_logic.specs.Views.{text_of}
 use Rattle.express_logic.proofs.Taken.{is_whole, isnt_there}
 use Rattle.express_logic.proofs.strings.AnyString.is_dotted.Goals as goal

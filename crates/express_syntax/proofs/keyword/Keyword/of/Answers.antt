@@ -2,7 +2,7 @@ use Rattle.std.proofs.Common.{sym, ap, ◌∙◌}
 use Rattle.std.specs.Option.{option_copied}
 use Rattle.step_literals.specs.Words.{upper}
 use Rattle.express_syntax.specs.Keywords.{keyword_among, keyword_at}
-use Rattle.express_syntax.specs.Letters.{keywords_from}
+use Rattle.express_syntax.specs.steps.Letters.{keywords_from}
 use Rattle.express_syntax.proofs.KeywordLemmas.{by_first}
 use Rattle.express_syntax.proofs.keyword.Keyword.of.Goals as goal
 

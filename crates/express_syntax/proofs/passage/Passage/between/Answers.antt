@@ -1,4 +1,4 @@
-use Rattle.express_syntax.specs.PassageLemmas.{stands_within}
+use Rattle.express_syntax.specs.steps.PassageLemmas.{stands_within}
 use Rattle.express_syntax.proofs.StandLemmas.{passage_words}
 use Rattle.express_syntax.proofs.passage.Passage.between.Goals as goal
 

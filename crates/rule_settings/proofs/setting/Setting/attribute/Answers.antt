@@ -1,12 +1,12 @@
 use Rattle.std.proofs.Common.{◌∙◌, refl, ap, sym}
 use Rattle.conformance.specs.Populations.{types_at}
-use Rattle.population_typed.specs.Whole.{slots_by_form}
-use Rattle.population_typed.proofs.Found.{no-instance}
+use Rattle.typed_populations.specs.PopulationTables.{slots_by_form}
+use Rattle.typed_populations.proofs.Found.{no-instance}
 use Rattle.express_syntax.specs.ExpressionViews.{capitals}
 use Rattle.express_logic.specs.Views.{datum_of}
 use Rattle.conformance.specs.Meanings.{attribute_in}
 use Rattle.rule_values.specs.Parts.{holding}
-use Rattle.schema_sources.specs.Seen.{source_seen}
+use Rattle.schema_attribute_sources.specs.SourceViews.{source_seen}
 use Rattle.rule_sources.specs.Sources.{source_in, form_source}
 use Rattle.rule_settings.specs.Settings.{schema_in, population_in, inverses_in, worth_of}
 use Rattle.rule_settings.proofs.Asked.{is_found}

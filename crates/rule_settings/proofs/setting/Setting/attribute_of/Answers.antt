@@ -3,7 +3,7 @@ use Rattle.express_syntax.specs.ExpressionViews.{capitals}
 use Rattle.express_logic.specs.Views.{datum_of}
 use Rattle.conformance.specs.Attributes.{AreAttributes}
 use Rattle.rule_values.specs.Parts.{holding}
-use Rattle.schema_sources.specs.Seen.{types_seen, inverses_seen, source_seen}
+use Rattle.schema_attribute_sources.specs.SourceViews.{types_seen, inverses_seen, source_seen}
 use Rattle.rule_settings.specs.Settings.{schema_in, population_in, inverses_in, worth_of, or_nothing}
 use Rattle.rule_settings.proofs.Asked.{is_member}
 use Rattle.rule_settings.proofs.Meaning.{attributes_are}

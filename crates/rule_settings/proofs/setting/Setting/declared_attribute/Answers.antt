@@ -4,7 +4,7 @@ use Rattle.express_syntax.specs.ExpressionViews.{capitals}
 use Rattle.express_logic.specs.Views.{datum_of}
 use Rattle.conformance.specs.Attributes.{AreAttributes}
 use Rattle.rule_values.specs.Parts.{holding}
-use Rattle.schema_sources.specs.Seen.{types_seen, inverses_seen, source_seen, IsNumbered}
+use Rattle.schema_attribute_sources.specs.SourceViews.{types_seen, inverses_seen, source_seen, IsNumberedSource}
 use Rattle.rule_settings.specs.Settings.{schema_in, population_in, inverses_in, worth_of}
 use Rattle.rule_settings.proofs.Asked.{is_found, is_missing}
 use Rattle.rule_settings.proofs.Meaning.{attributes_are}
@@ -13,7 +13,7 @@ use Rattle.rule_settings.proofs.setting.Setting.declared_attribute.Goals as goal
 pub found-requires-clause-numbered : goal.found-requires-clause-numbered
 found-requires-clause-numbered c =
     let s = schema_in c.args.self.now in
-    subst (λ rows. IsNumbered s (inverses_seen s rows) c.in-Some.source) c.deref.ensures.value c.in-Some.ensures.numbered
+    subst (λ rows. IsNumberedSource s (inverses_seen s rows) c.in-Some.source) c.deref.ensures.value c.in-Some.ensures.numbered
 
 pub returns-in-Some-clause-worth : goal.returns-in-Some-clause-worth
 returns-in-Some-clause-worth c m computed =

@@ -1,5 +1,5 @@
 use Rattle.std.proofs.Common.{◌≡◌, ◌<◌, ◌∙◌, Some, length, slice_get, ap, sym, subst}
-use Rattle.schema_rules.specs.Seen.{place_at}
+use Rattle.schema_constraints.specs.RuleViews.{place_at}
 use Rattle.conformance.specs.Populations.{value_of}
 use Rattle.conformance.specs.Values.{datum_at, first_declared}
 use Rattle.rule_settings.specs.Settings.{schema_in, population_in}

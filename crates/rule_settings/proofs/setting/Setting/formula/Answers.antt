@@ -1,4 +1,4 @@
-use Rattle.schema_bases.specs.Seen.{name_at}
+use Rattle.schema_underlying_types.specs.BaseViews.{name_at}
 use Rattle.rule_settings.specs.Settings.{schema_in, inverses_in}
 use Rattle.rule_settings.proofs.Meaning.{attributes_are}
 use Rattle.rule_settings.proofs.setting.Setting.formula.Goals as goal

@@ -3,7 +3,7 @@ use Rattle.express_logic.specs.Views.{datum_of}
 use Rattle.rule_values.specs.Parts.{holding}
 use Rattle.rule_settings.specs.declared.attributes.Found.TheVariants.{Value, Derived}
 use Rattle.rule_settings.specs.Settings.{schema_in, population_in, inverses_in, derivation_in}
-use Rattle.rule_settings.specs.Sources.{IsFoundAt}
+use Rattle.rule_settings.specs.steps.Sources.{IsFoundAt}
 use Rattle.rule_settings.proofs.Asked.{derived_found, inverse_found}
 use Rattle.rule_settings.proofs.setting.Setting.found.Goals as goal
 

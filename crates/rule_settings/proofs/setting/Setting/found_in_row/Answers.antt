@@ -1,14 +1,14 @@
 use Rattle.std.proofs.Common.{◌∙◌, Some, ap, sym, subst}
-use Rattle.schema_rules.specs.Seen.{place_at}
-use Rattle.population_typed.proofs.Found.{row-of-name}
+use Rattle.schema_constraints.specs.RuleViews.{place_at}
+use Rattle.typed_populations.proofs.Found.{row-of-name}
 use Rattle.express_logic.specs.Views.{datum_of}
 use Rattle.rule_values.specs.Parts.{holding}
-use Rattle.schema_sources.specs.Seen.{IsNumbered}
+use Rattle.schema_attribute_sources.specs.SourceViews.{IsNumberedSource}
 use Rattle.rule_sources.specs.Sources.{source_in, form_source}
 use Rattle.rule_sources.proofs.Positions.{position-kept}
 use Rattle.rule_settings.specs.declared.attributes.Found.TheVariants.{Value}
 use Rattle.rule_settings.specs.Settings.{schema_in, population_in, inverses_in}
-use Rattle.rule_settings.specs.Sources.{slots_in, IsFoundAt}
+use Rattle.rule_settings.specs.steps.Sources.{slots_in, IsFoundAt}
 use Rattle.rule_settings.proofs.Asked.{explicit_found}
 use Rattle.rule_settings.proofs.setting.Setting.found_in_row.Goals as goal
 
@@ -19,7 +19,7 @@ value_at-requires-clause-row c =
 pub value_at-requires-clause-place : goal.value_at-requires-clause-place
 value_at-requires-clause-place c =
     let S = c.args.self.now in
-    subst (λ x. IsNumbered (schema_in S) (inverses_in S) (source_in x)) c.in-Explicit.is c.requires.numbered
+    subst (λ x. IsNumberedSource (schema_in S) (inverses_in S) (source_in x)) c.in-Explicit.is c.requires.numbered
 
 pub value_at-requires-clause-position : goal.value_at-requires-clause-position
 value_at-requires-clause-position c =
@@ -30,7 +30,7 @@ value_at-requires-clause-position c =
 pub found-requires-clause-numbered : goal.found-requires-clause-numbered
 found-requires-clause-numbered c =
     let S = c.args.self.now in
-    subst (λ x. IsNumbered (schema_in S) (inverses_in S) (source_in x)) c.in-Other.is c.requires.numbered
+    subst (λ x. IsNumberedSource (schema_in S) (inverses_in S) (source_in x)) c.in-Other.is c.requires.numbered
 
 pub returns-in-Explicit-clause-worth : goal.returns-in-Explicit-clause-worth
 returns-in-Explicit-clause-worth c m computed =

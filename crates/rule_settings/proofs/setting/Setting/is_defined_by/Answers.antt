@@ -1,7 +1,7 @@
 use Rattle.std.proofs.Common.{sym}
 use Rattle.express_syntax.specs.ExpressionViews.{capitals}
 use Rattle.express_logic.specs.Views.{text_of}
-use Rattle.schema_sources.proofs.Reading.{tree-within}
+use Rattle.schema_attribute_sources.proofs.Reading.{tree-within}
 use Rattle.rule_settings.specs.Settings.{schema_in}
 use Rattle.rule_names.proofs.Saying.{says_nothing}
 use Rattle.rule_settings.proofs.setting.Setting.is_defined_by.Goals as goal

@@ -3,7 +3,7 @@ use Rattle.std.specs.Prelude.{IfSome}
 use Rattle.std.specs.Option.{option_map}
 use Rattle.std.proofs.lemmas.Option.{slice_get-map, slice_get-get_or}
 use Rattle.express_syntax.specs.ExpressionViews.{capitals}
-use Rattle.population_typed.specs.Whole.{form_among}
+use Rattle.typed_populations.specs.PopulationTables.{form_among}
 use Rattle.rule_sources.specs.Sources.{IsFormSource, AreNamedSources}
 use Rattle.rule_sources.proofs.Rows.{form-of-number}
 use Rattle.rule_sources.proofs.sources.FormSources.find.Goals as goal

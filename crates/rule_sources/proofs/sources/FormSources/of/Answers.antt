@@ -3,10 +3,10 @@ use Rattle.std.proofs.lemmas.Option.{slice_get-get_or}
 use Rattle.std.specs.List.{AllZip}
 use Rattle.population_rows.specs.declared.form.Form.{Form}
 use Rattle.schema_names.specs.Schemas.{the_schema}
-use Rattle.schema_uses.proofs.Going.{zip-next, all-taken}
-use Rattle.schema_sources.specs.Seen.{inverses_seen}
-use Rattle.population_typed.specs.Whole.{AreNumbered}
-use Rattle.population_typed.proofs.Found.{every-at}
+use Rattle.schema_redeclarations.proofs.Going.{zip-next, all-taken}
+use Rattle.schema_attribute_sources.specs.SourceViews.{inverses_seen}
+use Rattle.typed_populations.specs.PopulationTables.{AreNumbered}
+use Rattle.typed_populations.proofs.Found.{every-at}
 use Rattle.rule_sources.specs.Sources.{AreNamedSources}
 use Rattle.rule_sources.proofs.Rows.{same-forms}
 use Rattle.rule_sources.proofs.sources.FormSources.of.Goals as goal

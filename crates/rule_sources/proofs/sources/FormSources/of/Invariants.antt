@@ -2,7 +2,7 @@ use Rattle.std.specs.List.{AllZip}
 use Rattle.std.proofs.Common.{map, take}
 use Rattle.population_rows.specs.declared.form.Form.{Form}
 use Rattle.schema_names.specs.Schemas.{the_schema}
-use Rattle.schema_sources.specs.Seen.{inverses_seen}
+use Rattle.schema_attribute_sources.specs.SourceViews.{inverses_seen}
 use Rattle.rule_sources.specs.Sources.{AreNamedSources}
 use Rattle.rule_sources.proofs.sources.FormSources.of.Given as goal
 

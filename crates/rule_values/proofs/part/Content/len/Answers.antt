@@ -1,6 +1,6 @@
 use Rattle.std.proofs.Common.{◌∙◌, ap, sym}
 use Rattle.express_logic.specs.Holdings.{size_of}
-use Rattle.rule_values.specs.Coded.{element_base}
+use Rattle.rule_values.specs.TableValues.{element_base}
 use Rattle.rule_values.specs.Parts.{content_elements}
 use Rattle.rule_values.proofs.Elements.{size-coded}
 use Rattle.rule_values.proofs.part.Content.len.Goals as goal

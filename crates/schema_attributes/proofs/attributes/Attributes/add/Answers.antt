@@ -2,7 +2,7 @@ use Rattle.std.proofs.Common.{rules, ◌∙◌, ◌++◌, ◌∷◌, [], Some, a
 use Rattle.std.proofs.lemmas.Result.{on_ok_weaker}
 use Rattle.indexmap.specs.IndexMap.{get}
 use Rattle.schema_names.specs.Words.{same_word}
-use Rattle.schema_attributes.specs.Declarations.{row_in}
+use Rattle.schema_attributes.specs.steps.Declarations.{row_in}
 use Rattle.schema_attributes.specs.declared.row.Row.TheVariants as rows
 use Rattle.schema_attributes.proofs.ByName.{adds-one}
 use Rattle.schema_attributes.proofs.attributes.Attributes.add.Goals as goal

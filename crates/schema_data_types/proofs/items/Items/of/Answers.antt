@@ -8,7 +8,7 @@ use Rattle.schema_semantics.specs.Names.{Name}
 use Rattle.schema_semantics.specs.Sets.{IsItemOf}
 use Rattle.schema_names.specs.Words.{same_word}
 use Rattle.schema_names.specs.Schemas.{the_schema}
-use Rattle.schema_data_types.specs.Enumerated.{includes, all_items, items_in}
+use Rattle.schema_data_types.specs.steps.Enumerated.{includes, all_items, items_in}
 use Rattle.schema_data_types.proofs.Enumerated.{includes-more, items-more, all-told}
 use Rattle.schema_data_types.proofs.items.Items.of.Goals as goal
 

@@ -2,7 +2,7 @@ use Rattle.std.proofs.Common.{ap, sym, subst, ◌∙◌}
 use Rattle.std.specs.List.Sorted.{IsSorted}
 use Rattle.express_syntax.specs.ExpressionViews.{capitals}
 use Rattle.express_syntax.specs.Views.{names_of}
-use Rattle.schema_names.specs.Enumerated.{includes, by_name, words_at}
+use Rattle.schema_names.specs.steps.Enumerated.{includes, by_name, words_at}
 use Rattle.schema_names.proofs.Ordered.{row-there, no-row}
 use Rattle.schema_names.proofs.names.Names.has_item.Goals as goal
 

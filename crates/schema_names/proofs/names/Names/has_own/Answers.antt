@@ -2,9 +2,9 @@ use Rattle.std.proofs.Common.{◌≡◌, sym, subst}
 use Rattle.std.specs.Prelude.{nat_eq, IfSome}
 use Rattle.indexmap.specs.IndexMap.{get}
 use Rattle.express_syntax.specs.ExpressionViews.{capitals}
-use Rattle.schema_names.specs.declared.owned.Class.TheVariants.{Explicit, Other}
-use Rattle.schema_names.specs.Enumerated.{includes}
-use Rattle.schema_names.specs.OwnNames.{names_at}
+use Rattle.schema_names.specs.declared.attribute_names.Class.TheVariants.{Explicit, Other}
+use Rattle.schema_names.specs.steps.Enumerated.{includes}
+use Rattle.schema_names.specs.steps.OwnNames.{names_at}
 use Rattle.schema_names.specs.Schemas.{the_schema}
 use Rattle.schema_names.proofs.Rowed.{row-sorted, row-told}
 use Rattle.schema_names.proofs.names.Names.has_own.Goals as goal

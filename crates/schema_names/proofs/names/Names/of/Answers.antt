@@ -3,9 +3,9 @@ use Rattle.std.specs.Prelude.{nat_eq}
 use Rattle.std.specs.List.{AllZip}
 use Rattle.indexmap.specs.IndexMap.{get}
 use Rattle.express_syntax.specs.Views.{declaration_of}
-use Rattle.schema_names.specs.declared.owned.Class.TheVariants.{Explicit, Other}
-use Rattle.schema_names.specs.Enumerated.{IsItemRow}
-use Rattle.schema_names.specs.OwnNames.{AreOwnRows}
+use Rattle.schema_names.specs.declared.attribute_names.Class.TheVariants.{Explicit, Other}
+use Rattle.schema_names.specs.steps.Enumerated.{IsItemRow}
+use Rattle.schema_names.specs.steps.OwnNames.{AreOwnRows}
 use Rattle.schema_names.proofs.Ordered.{rows-sorted, rows-told}
 use Rattle.schema_names.proofs.names.Names.of.Goals as goal
 

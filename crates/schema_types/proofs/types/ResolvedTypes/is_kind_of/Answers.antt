@@ -1,6 +1,6 @@
 use Rattle.std.proofs.Common.{◌≡◌, ◌∙◌}
 use Rattle.std.proofs.Math.Logic.{∥∥₁_map}
-use Rattle.digraph.specs.Graphs.{has}
+use Rattle.graphs.specs.Graphs.{has}
 use Rattle.schema_names.specs.Schemas.{the_schema}
 use Rattle.schema_types.proofs.Asked.{kind-itself, kind-above, told-is}
 use Rattle.schema_types.proofs.types.ResolvedTypes.is_kind_of.Goals as goal

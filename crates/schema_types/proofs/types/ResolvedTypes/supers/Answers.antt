@@ -1,6 +1,6 @@
 use Rattle.std.proofs.Common.{◌<◌, length, arith}
 use Rattle.std.proofs.Math.Logic.{∥∥₁_map}
-use Rattle.digraph.specs.Graphs.{graph_of}
+use Rattle.graphs.specs.Graphs.{graph_of}
 use Rattle.schema_names.specs.Schemas.{the_schema}
 use Rattle.schema_types.proofs.Asked.{supers-are, row-seen}
 use Rattle.schema_types.proofs.types.ResolvedTypes.supers.Goals as goal

@@ -3,7 +3,7 @@ use Rattle.std.specs.declared.cmp.Ordering.TheVariants.{Less, Greater}
 use Rattle.std.specs.Cmp.{int_cmp_is}
 use Rattle.std.proofs.lemmas.Int.{ints}
 use Rattle.step_literals.specs.Decimals.{finest}
-use Rattle.step_literals.specs.Digits.{magnitude_of}
+use Rattle.step_literals.specs.steps.Digits.{magnitude_of}
 use Rattle.step_literals.proofs.UnitLemmas.{units_by_cut, below_is_some, order_above, order_below, less_by_sign, reversed, times_above, times_below, tens_some}
 use Rattle.step_literals.proofs.literal.Decimal.compare_whole.Goals as goal
 

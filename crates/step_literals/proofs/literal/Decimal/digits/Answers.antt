@@ -1,6 +1,6 @@
 use Rattle.std.proofs.Common.{arith, ◌≡◌, ◌∙◌, ◌+◌, ◌++◌, length, ap, length-append}
-use Rattle.step_literals.specs.DigitStrings.{significant, is_significant, significant_digits, is_below_zero}
-use Rattle.step_literals.specs.NormalFormLemmas.{digits_significant}
+use Rattle.step_literals.specs.steps.DigitStrings.{significant, is_significant, significant_digits, is_below_zero}
+use Rattle.step_literals.specs.steps.NormalFormLemmas.{digits_significant}
 use Rattle.step_literals.proofs.DecimalDigits.{below_with_sign, below_without_sign, sign_of_digits}
 use Rattle.step_literals.proofs.literal.Decimal.digits.Goals as goal
 use Rattle.step_literals.proofs.literal.Decimal.digits.Goals.{then-is_negative, else-is_negative}

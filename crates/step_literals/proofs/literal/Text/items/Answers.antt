@@ -1,7 +1,7 @@
 use Rattle.std.proofs.Common.{◌∙◌, ap}
 use Rattle.step_literals.specs.Strings.{clean}
 use Rattle.step_literals.specs.Items.{string_items}
-use Rattle.step_literals.specs.Rests.{clean_items}
+use Rattle.step_literals.specs.steps.Rests.{clean_items}
 use Rattle.step_literals.proofs.literal.Text.items.Goals as goal
 
 pub returns : goal.returns

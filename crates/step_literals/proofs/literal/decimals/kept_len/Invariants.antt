@@ -1,5 +1,5 @@
 use Rattle.std.proofs.Common.{◌≡◌, ◌≤◌, length}
-use Rattle.step_literals.specs.DigitStrings.{end_of}
+use Rattle.step_literals.specs.steps.DigitStrings.{end_of}
 use Rattle.step_literals.proofs.literal.decimals.kept_len.Given as goal
 
 abbrev pub invariant-loop-end : goal.invariant-loop-end

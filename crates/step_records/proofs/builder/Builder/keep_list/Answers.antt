@@ -1,7 +1,7 @@
 use Rattle.std.proofs.Common.{ap, arith, drop}
 use Rattle.parsing.specs.Nodes.{said_by}
 use Rattle.step_records.specs.Cells.{parameters}
-use Rattle.step_records.specs.Building.{list_of}
+use Rattle.step_records.specs.steps.Building.{list_of}
 use Rattle.step_records.proofs.Built.{closed, kept_pushed, closed_kept}
 use Rattle.step_records.proofs.builder.Builder.keep_list.Goals as goal
 

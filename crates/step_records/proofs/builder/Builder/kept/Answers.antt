@@ -1,5 +1,5 @@
 use Rattle.std.proofs.Common.{ap, ◌∙◌}
-use Rattle.step_records.specs.Building.{kept_by}
+use Rattle.step_records.specs.steps.Building.{kept_by}
 use Rattle.step_records.proofs.Built.{pending_dropped}
 use Rattle.step_records.proofs.builder.Builder.kept.Goals as goal
 

@@ -1,8 +1,8 @@
 use Rattle.std.proofs.Common.{sym, subst, arith}
 use Rattle.parsing.specs.Nodes.{said_at}
-use Rattle.step_records.specs.Building.{Building}
+use Rattle.step_records.specs.steps.Building.{Building}
 use Rattle.step_records.specs.Cells.{parameters}
-use Rattle.step_records.specs.Tokens.{IsLeafAt, leaf_tree}
+use Rattle.step_records.specs.steps.Tokens.{IsLeafAt, leaf_tree}
 use Rattle.step_records.proofs.Built.{pending_pushed, pending_built}
 use Rattle.step_records.proofs.builder.Builder.push_leaf_at.Goals as goal
 

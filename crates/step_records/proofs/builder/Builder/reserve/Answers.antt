@@ -1,5 +1,5 @@
 use Rattle.std.proofs.Common.{ap, ◌∙◌}
-use Rattle.step_records.specs.Building.{built}
+use Rattle.step_records.specs.steps.Building.{built}
 use Rattle.step_records.proofs.builder.Builder.reserve.Goals as goal
 
 pub returns-in_err-reserve : goal.returns-in_err-reserve

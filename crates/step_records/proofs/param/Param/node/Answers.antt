@@ -1,7 +1,7 @@
 use Rattle.std.proofs.Common.{◌≤◌, ◌∙◌, [], ap, sym, subst, length}
 use Rattle.parsing.specs.Nodes.{said_at}
 use Rattle.step_structures.specs.Trees.{group}
-use Rattle.step_records.specs.Building.{kept_by}
+use Rattle.step_records.specs.steps.Building.{kept_by}
 use Rattle.step_records.specs.Cells.{all_of, parameters, reach_as, says_as}
 use Rattle.step_records.proofs.Runs.{column_builds, part_builds, run_said}
 use Rattle.step_records.proofs.param.Param.node.Goals as goal

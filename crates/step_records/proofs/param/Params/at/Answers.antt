@@ -1,7 +1,7 @@
 use Rattle.std.proofs.Common.{◌∙◌, [], Some, slice_get, ap, sym}
 use Rattle.std.specs.Prelude.{option_map}
 use Rattle.std.proofs.lemmas.Option.{slice_get-get_or, slice_get-map}
-use Rattle.step_records.specs.Building.{tree_of}
+use Rattle.step_records.specs.steps.Building.{tree_of}
 use Rattle.step_records.proofs.Runs.{one_builds, within_cells}
 use Rattle.step_records.proofs.param.Params.at.Goals as goal
 

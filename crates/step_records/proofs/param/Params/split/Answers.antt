@@ -1,7 +1,7 @@
 use Rattle.std.proofs.Common.{sym, ap, ◌∙◌, [], take, drop, subst}
 use Rattle.std.proofs.lemmas.List.{take-map, drop-map}
 use Rattle.parsing.specs.Nodes.{said_at}
-use Rattle.step_records.specs.Building.{Builds, kept_by}
+use Rattle.step_records.specs.steps.Building.{Builds, kept_by}
 use Rattle.step_records.specs.Cells.{parameters}
 use Rattle.step_records.proofs.Built.{kept_cut}
 use Rattle.step_records.proofs.param.Params.split.Goals as goal

@@ -1,8 +1,8 @@
 use Rattle.std.proofs.Common.{sym, ap, ◌∙◌, subst}
-use Rattle.step_lexis.specs.Reading.{Reading}
-use Rattle.step_records.specs.Building.{Building}
-use Rattle.step_records.specs.Readers.{Progress}
-use Rattle.step_records.specs.Steps.{PushesLeaf}
+use Rattle.step_lexer.specs.Reading.{Reading}
+use Rattle.step_records.specs.steps.Building.{Building}
+use Rattle.step_records.specs.steps.Readers.{Progress}
+use Rattle.step_records.specs.steps.Steps.{PushesLeaf}
 use Rattle.step_records.proofs.Pushing.{front_of, next_token, leaf_next, leaf_pushed}
 use Rattle.step_records.proofs.reader.Reader.push_front.Goals as goal
 

@@ -1,9 +1,9 @@
 use Rattle.std.proofs.Common.{sym, ap, ◌∙◌, subst}
-use Rattle.step_lexis.specs.Reading.{Reading}
-use Rattle.step_records.specs.Building.{Building}
+use Rattle.step_lexer.specs.Reading.{Reading}
+use Rattle.step_records.specs.steps.Building.{Building}
 use Rattle.step_records.specs.declared.cell.Leaf.TheVariants.{Keyword}
-use Rattle.step_records.specs.Readers.{Progress}
-use Rattle.step_records.specs.Steps.{PushesKeyword}
+use Rattle.step_records.specs.steps.Readers.{Progress}
+use Rattle.step_records.specs.steps.Steps.{PushesKeyword}
 use Rattle.step_records.proofs.Pushing.{next_token, leaf_next, keyword_pushed}
 use Rattle.step_records.proofs.reader.Reader.push_keyword.Goals as goal
 

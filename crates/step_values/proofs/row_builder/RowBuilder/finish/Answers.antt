@@ -1,6 +1,6 @@
 use Rattle.std.proofs.Common.{subst}
-use Rattle.step_values.specs.Building.{Building, rows_by}
-use Rattle.step_values.specs.Targets.{ReferTo}
+use Rattle.step_values.specs.steps.Building.{Building, rows_by}
+use Rattle.step_values.specs.steps.Targets.{ReferTo}
 use Rattle.step_values.proofs.Built.{finished}
 use Rattle.step_values.proofs.Referring.{rows_refer}
 use Rattle.step_values.proofs.row_builder.RowBuilder.finish.Goals as goal

@@ -1,7 +1,7 @@
 use Rattle.std.proofs.Common.{subst, sym}
 use Rattle.step_values.specs.Cells.{flat_value, value_at}
-use Rattle.step_values.specs.Building.{Building}
-use Rattle.step_values.specs.Targets.{LeadTo, target_of}
+use Rattle.step_values.specs.steps.Building.{Building}
+use Rattle.step_values.specs.steps.Targets.{LeadTo, target_of}
 use Rattle.step_values.proofs.Built.{pending_pushed, pending_built, flat_one, flat_says}
 use Rattle.step_values.proofs.row_builder.RowBuilder.push.Goals as goal
 

@@ -1,5 +1,5 @@
 use Rattle.std.proofs.Common.{ap, subst, sym}
-use Rattle.step_values.specs.Building.{AreRunsOf}
+use Rattle.step_values.specs.steps.Building.{AreRunsOf}
 use Rattle.step_values.proofs.rows.ValueRows.cells.Goals as goal
 
 pub returns-clause-rows : goal.returns-clause-rows

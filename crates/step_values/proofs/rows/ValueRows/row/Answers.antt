@@ -2,7 +2,7 @@ use Rattle.std.proofs.Common.{◌≡◌, ◌<◌, Some, length, slice_get, ◌�
 use Rattle.std.specs.Prelude.{option_map}
 use Rattle.std.proofs.lemmas.List.{length-map}
 use Rattle.std.proofs.lemmas.Option.{slice_get-get_or, slice_get-map}
-use Rattle.step_values.specs.Building.{rows_by}
+use Rattle.step_values.specs.steps.Building.{rows_by}
 use Rattle.step_values.specs.Cells.{values_of_run}
 use Rattle.step_values.proofs.Reading.{within_at}
 use Rattle.step_values.proofs.rows.ValueRows.row.Goals as goal

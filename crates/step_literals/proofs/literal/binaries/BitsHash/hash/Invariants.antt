@@ -1,7 +1,7 @@
 use Rattle.std.proofs.Common.{◌≡◌, ◌++◌, fold}
 use Rattle.std.specs.List.{flat_map}
 use Rattle.std.specs.Hash as fed
-use Rattle.step_literals.specs.BitsLeft.{bits_left}
+use Rattle.step_literals.specs.steps.BitsLeft.{bits_left}
 use Rattle.step_literals.specs.Values.{bits_value}
 use Rattle.step_literals.proofs.literal.binaries.BitsHash.hash.Given as goal
 

@@ -2,7 +2,7 @@ use Rattle.std.proofs.Common.{◌≡◌, refl, ap, ◌∙◌}
 use Rattle.std.specs.Ordering.{bool_cmp}
 use Rattle.std.proofs.lemmas.Iterator.Consumers.{YieldsList-from_first}
 use Rattle.std.proofs.lemmas.Iterator.Search.{cmp_from_yields_List}
-use Rattle.step_literals.specs.BitsLeft.{bits_left}
+use Rattle.step_literals.specs.steps.BitsLeft.{bits_left}
 use Rattle.step_literals.specs.Values.{bits_value}
 use Rattle.step_literals.proofs.literal.binaries.BitsOrd.cmp.Goals as goal
 

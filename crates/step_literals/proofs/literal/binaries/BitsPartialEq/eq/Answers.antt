@@ -1,6 +1,6 @@
 use Rattle.std.proofs.Common.{ap, sym, ◌∙◌}
 use Rattle.std.specs.Ordering.{is_eq}
-use Rattle.step_literals.specs.BitListLemmas.{bits_ties}
+use Rattle.step_literals.specs.steps.BitListLemmas.{bits_ties}
 use Rattle.step_literals.specs.Values.{bits_value}
 use Rattle.step_literals.proofs.literal.binaries.BitsPartialEq.eq.Goals as goal
 

@@ -1,8 +1,8 @@
 use Rattle.std.proofs.Common.{sym, ◌∙◌, arith, ◌≡◌, max, length}
 use Rattle.std.specs.declared.cmp.Ordering.TheVariants.{Equal}
 use Rattle.std.specs.Cmp.{nat_cmp_is}
-use Rattle.step_literals.specs.Digits.{digits_of, magnitude_of}
-use Rattle.step_literals.specs.MagnitudeLemmas.{less_by_top, less_by_digit, same_by_digits}
+use Rattle.step_literals.specs.steps.Digits.{digits_of, magnitude_of}
+use Rattle.step_literals.specs.steps.MagnitudeLemmas.{less_by_top, less_by_digit, same_by_digits}
 use Rattle.step_literals.proofs.DecimalDigits.{front_next, order_told}
 use Rattle.step_literals.proofs.literal.decimals.Digits.compare_magnitude.Goals as goal
 

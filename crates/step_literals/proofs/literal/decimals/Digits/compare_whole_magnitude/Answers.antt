@@ -1,6 +1,6 @@
 use Rattle.std.proofs.Common.{◌≡◌, ◌-◌, ◌≤◌, arith, length}
-use Rattle.step_literals.specs.DigitStrings.{top, end_of}
-use Rattle.step_literals.specs.Digits.{digits_of}
+use Rattle.step_literals.specs.steps.DigitStrings.{top, end_of}
+use Rattle.step_literals.specs.steps.Digits.{digits_of}
 use Rattle.step_literals.proofs.UnitLemmas.{long_is_greater, fine_is_greater, front_orders}
 use Rattle.step_literals.proofs.literal.decimals.Digits.compare_whole_magnitude.Goals as goal
 use Rattle.step_literals.proofs.literal.decimals.Digits.compare_whole_magnitude.Goals.{else-front-whole-via-then-front-whole+else-end-len, else-front-whole-via-else-front-whole}

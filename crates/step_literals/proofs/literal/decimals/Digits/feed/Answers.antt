@@ -1,5 +1,5 @@
 use Rattle.std.proofs.Common.{arith}
-use Rattle.step_literals.specs.Digits.{digits_of}
+use Rattle.step_literals.specs.steps.Digits.{digits_of}
 use Rattle.step_literals.proofs.DigitSlices.{few_fed}
 use Rattle.step_literals.proofs.literal.decimals.Digits.feed.Goals as goal
 

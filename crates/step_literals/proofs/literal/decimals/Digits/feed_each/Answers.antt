@@ -1,5 +1,5 @@
 use Rattle.std.proofs.Common.{ℕ, List, ◌∙◌, arith}
-use Rattle.step_literals.specs.Digits.{digits_of}
+use Rattle.step_literals.specs.steps.Digits.{digits_of}
 use Rattle.step_literals.proofs.DecimalDigits.{fed_at, fed_before_it, front_wraps}
 use Rattle.step_literals.proofs.literal.decimals.Digits.feed_each.Goals as goal
 use Rattle.step_literals.proofs.literal.decimals.Digits.feed_each.Goals.{then-i, else-i}

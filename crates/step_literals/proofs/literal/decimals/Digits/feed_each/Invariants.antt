@@ -1,7 +1,7 @@
 use Rattle.std.proofs.Common.{◌≡◌, ◌%◌, ◌^◌, fold}
 use Rattle.step_literals.specs.DecimalKeys.{front_writes}
-use Rattle.step_literals.specs.Digits.{digits_of}
-use Rattle.step_literals.specs.DigitStrings.{front_value}
+use Rattle.step_literals.specs.steps.Digits.{digits_of}
+use Rattle.step_literals.specs.steps.DigitStrings.{front_value}
 use Rattle.step_literals.proofs.literal.decimals.Digits.feed_each.Given as goal
 
 abbrev pub invariant-loop-i : goal.invariant-loop-i

@@ -1,6 +1,6 @@
 use Rattle.std.proofs.Common.{arith, ◌≡◌, ◌%◌, ◌^◌, refl, ap, ◌∙◌, length-append}
-use Rattle.step_literals.specs.Digits.{digits_of}
-use Rattle.step_literals.specs.DigitStrings.{front_value}
+use Rattle.step_literals.specs.steps.Digits.{digits_of}
+use Rattle.step_literals.specs.steps.DigitStrings.{front_value}
 use Rattle.step_literals.proofs.DigitSlices.{slice_of_whole, slice_of_part, slices_value, zero_more}
 use Rattle.step_literals.proofs.literal.decimals.Digits.front_value.Goals as goal
 

@@ -1,6 +1,6 @@
 use Rattle.std.proofs.Common.{◌≡◌, ◌≤◌, ◌<◌, ◌-◌, ◌%◌, ◌^◌, length}
-use Rattle.step_literals.specs.Digits.{digits_of}
-use Rattle.step_literals.specs.DigitStrings.{front_value}
+use Rattle.step_literals.specs.steps.Digits.{digits_of}
+use Rattle.step_literals.specs.steps.DigitStrings.{front_value}
 use Rattle.step_literals.proofs.literal.decimals.Digits.front_value.Given as goal
 
 abbrev pub invariant-loop-place : goal.invariant-loop-place

@@ -1,5 +1,5 @@
 use Rattle.std.proofs.Common.{arith}
-use Rattle.step_literals.specs.Digits.{digits_of, magnitude_of}
+use Rattle.step_literals.specs.steps.Digits.{digits_of, magnitude_of}
 use Rattle.step_literals.proofs.UnitLemmas.{turned_some, turned_none}
 use Rattle.step_literals.proofs.literal.decimals.Digits.turned.Goals as goal
 use Rattle.step_literals.proofs.literal.decimals.Digits.turned.Goals.{then-len-gt0, else-len-gt0}

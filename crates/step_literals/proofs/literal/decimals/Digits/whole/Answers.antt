@@ -1,8 +1,8 @@
 use Rattle.std.proofs.Common.{arith, ◌≡◌, ◌∙◌, ◌-◌, sym, ap, to_z}
 use Rattle.std.specs.Int.{w128}
 use Rattle.step_literals.specs.Decimals.{signed}
-use Rattle.step_literals.specs.DigitStrings.{top, front_value}
-use Rattle.step_literals.specs.Digits.{digits_of}
+use Rattle.step_literals.specs.steps.DigitStrings.{top, front_value}
+use Rattle.step_literals.specs.steps.Digits.{digits_of}
 use Rattle.step_literals.proofs.UnitLemmas.{long_is_none, fine_is_none, whole_units, whole_small, negated, not_negated, whole_told}
 use Rattle.step_literals.proofs.literal.decimals.Digits.whole.Goals as goal
 use Rattle.step_literals.proofs.literal.decimals.Digits.whole.Goals.{then-self, else-self, then-len-gt-LONGEST_WHOLE-via-then-len-gt-LONGEST_WHOLE, then-len-gt-LONGEST_WHOLE-via-else-len-gt-LONGEST_WHOLE+then-end-len}

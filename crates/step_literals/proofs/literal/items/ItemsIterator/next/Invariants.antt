@@ -1,6 +1,6 @@
 use Rattle.std.proofs.Common.{◌≡◌, length}
 use Rattle.step_literals.specs.Strings.{clean}
-use Rattle.step_literals.specs.Rests.{rest_items}
+use Rattle.step_literals.specs.steps.Rests.{rest_items}
 use Rattle.step_literals.proofs.literal.items.ItemsIterator.next.Given as goal
 
 abbrev pub invariant-loop-item : goal.invariant-loop-item

@@ -1,8 +1,8 @@
 use Rattle.std.proofs.Common.{◌≡◌, subst, true}
 use Rattle.std.specs.Str.{is_utf8}
 use Rattle.step_literals.specs.Strings.{clean}
-use Rattle.step_literals.specs.Characters.{high_run}
-use Rattle.step_literals.specs.Inside.{is_sound}
+use Rattle.step_literals.specs.steps.Characters.{high_run}
+use Rattle.step_literals.specs.steps.Inside.{is_sound}
 use Rattle.step_literals.proofs.ItemLemmas.{group_goes, character_goes, byte_goes, over_characters}
 use Rattle.step_literals.proofs.literal.rest.Rest.character.Goals as goal
 

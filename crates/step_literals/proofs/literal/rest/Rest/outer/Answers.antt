@@ -1,6 +1,6 @@
 use Rattle.std.proofs.Common.{◌≡◌, ◌∙◌, sym, ap, subst, arith, drop}
 use Rattle.step_literals.specs.Strings.{clean}
-use Rattle.step_literals.specs.Rests.{clean_items, left_items, IsOver}
+use Rattle.step_literals.specs.steps.Rests.{clean_items, left_items, IsOver}
 use Rattle.step_literals.proofs.ItemLemmas.{over_group, over_other}
 use Rattle.step_literals.proofs.literal.rest.Rest.outer.Goals as goal
 

@@ -1,6 +1,6 @@
 use Rattle.std.proofs.Common.{◌∙◌, sym, ap}
 use Rattle.step_literals.specs.Strings.{clean}
-use Rattle.step_literals.specs.Rests.{left_items}
+use Rattle.step_literals.specs.steps.Rests.{left_items}
 use Rattle.step_literals.proofs.ItemLemmas.{run_begins}
 use Rattle.step_literals.proofs.literal.rest.Rest.run.Goals as goal
 

@@ -2,7 +2,7 @@ use Rattle.std.proofs.Common.{◌≡◌, length}
 use Rattle.std.specs.Ordering.{nat_cmp}
 use Rattle.std.specs.Cmp.Lexicographic.{slice_cmp}
 use Rattle.step_literals.specs.ItemKeys.{items_key, text_key}
-use Rattle.step_literals.specs.Rests.{items_left}
+use Rattle.step_literals.specs.steps.Rests.{items_left}
 use Rattle.step_literals.proofs.literal.texts.TextOrd.cmp.Given as goal
 
 abbrev pub invariant-loop-item : goal.invariant-loop-item

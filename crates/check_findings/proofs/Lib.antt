@@ -1,4 +1,0 @@
-pub mod Behind
-pub mod Ruled
-pub mod Nothing
-pub mod ByVerdict

@@ -1,5 +1,0 @@
-use Rattle.check_findings.proofs.Nothing.{conforms_where_nothing_is_found}
-use Rattle.check_findings.proofs.laws.conforms_where_nothing_is_found.Goals as goal
-
-pub returns : goal.returns
-returns c = conforms_where_nothing_is_found

@@ -1,9 +1,0 @@
-pub mod Leading
-pub mod Births
-pub mod Climbing
-pub mod Counting
-pub mod Writing
-pub mod Undoing
-pub mod Sorting
-pub mod Table
-pub mod Refined

@@ -1,9 +1,0 @@
-use Rattle.std.proofs.Common.{◌≡◌, length}
-use Rattle.class_numbers.specs.Working.{IsIndex}
-use Rattle.class_numbers.proofs.keys.numbers.Given as goal
-
-abbrev pub invariant-loop-number : goal.invariant-loop-number
-invariant-loop-number l = record {
-  each : length l.numbers.items ≡ l.size;
-  index : IsIndex l.births l.numbers.items l.number;
-}

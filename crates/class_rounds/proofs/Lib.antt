@@ -1,5 +1,0 @@
-pub mod Searching
-pub mod Gathering
-pub mod Parting
-pub mod Turns
-pub mod Unique

@@ -1,5 +1,0 @@
-use Rattle.class_rounds.proofs.Searching.{AreFirstStarts}
-use Rattle.class_rounds.proofs.edges.starts_of.Given as goal
-
-abbrev pub invariant-loop-target : goal.invariant-loop-target
-invariant-loop-target l = AreFirstStarts l.edges l.starts.items l.target l.at

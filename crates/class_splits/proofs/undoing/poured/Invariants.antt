@@ -1,9 +1,0 @@
-use Rattle.std.proofs.Common.{◌≡◌, ◌++◌, take}
-use Rattle.class_splits.specs.ComputedUndoing.{pairs_of}
-use Rattle.class_splits.proofs.undoing.poured.Given as goal
-
-abbrev pub invariant-loop-place : goal.invariant-loop-place
-invariant-loop-place l = record {
-  all : l.into.items ≡ l.fn.into.items ++ take l.place-index l.from;
-  noted : l.moves.items ≡ l.fn.moves.items ++ pairs_of l.round l.number (take l.place-index l.from);
-}

@@ -1,7 +1,0 @@
-use Rattle.std.proofs.Common.{arith}
-use Rattle.class_parts.specs.Views.{layout}
-use Rattle.class_parts.proofs.Splitting.{count_few}
-use Rattle.class_splits.proofs.walking.class_count.Goals as goal
-
-pub overflow_cast-result : goal.overflow_cast-result
-overflow_cast-result c = let few = count_few (layout c.args.parts.now) c.requires in let e = c.count.ensures in omega arith

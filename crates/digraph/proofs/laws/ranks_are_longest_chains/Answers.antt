@@ -1,5 +1,0 @@
-use Rattle.digraph.proofs.Ranks.{ranks-are-longest}
-use Rattle.digraph.proofs.laws.ranks_are_longest_chains.Goals as goal
-
-pub returns : goal.returns
-returns c = ranks-are-longest

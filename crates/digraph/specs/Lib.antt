@@ -1,6 +1,0 @@
-pub mod Graphs
-pub mod Rounds
-pub mod Closures
-pub mod Orders
-pub mod Laws
-pub mod Placings

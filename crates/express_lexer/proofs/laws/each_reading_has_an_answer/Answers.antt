@@ -1,0 +1,5 @@
+use Rattle.express_lexer.proofs.Answered.{answered}
+use Rattle.express_lexer.proofs.laws.each_reading_has_an_answer.Goals as goal
+
+pub returns : goal.returns
+returns c = answered

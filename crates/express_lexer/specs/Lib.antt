@@ -1,0 +1,9 @@
+pub mod Marks
+pub mod Tokens
+pub mod Layout
+pub mod Front
+pub mod Reading
+pub mod Laws
+pub mod Meanings
+pub mod DoubledApostrophes
+pub mod steps

@@ -1,5 +1,0 @@
-use Rattle.express_lexis.proofs.Determined.{end_again}
-use Rattle.express_lexis.proofs.laws.end_is_answered_again.Goals as goal
-
-pub returns : goal.returns
-returns c = λ old new next s h g. end_again old new next s h g

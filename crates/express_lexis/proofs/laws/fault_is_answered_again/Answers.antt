@@ -1,5 +1,0 @@
-use Rattle.express_lexis.proofs.Determined.{fault_again}
-use Rattle.express_lexis.proofs.laws.fault_is_answered_again.Goals as goal
-
-pub returns : goal.returns
-returns c = λ old new next f s h g. fault_again old new next f s h g

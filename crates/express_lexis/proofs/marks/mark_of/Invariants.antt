@@ -1,5 +1,0 @@
-use Rattle.express_lexis.proofs.MarkLemmas.{NoneBefore}
-use Rattle.express_lexis.proofs.marks.mark_of.Given as goal
-
-abbrev pub invariant-loop-mark : goal.invariant-loop-mark
-invariant-loop-mark l = NoneBefore l.bytes l.mark-index

@@ -1,9 +1,0 @@
-pub mod Marks
-pub mod Tokens
-pub mod Layout
-pub mod Front
-pub mod Reading
-pub mod Laws
-pub mod Meanings
-pub mod Doubled
-pub mod Left

@@ -1,8 +1,0 @@
--- What stands behind a data type.
-use Rattle.express_parts.specs.declared.data_types.Ending as code
-use Rattle.express_parts.specs.declared.data_types.Ending.TheVariants as endings
-use Rattle.express_syntax.specs.Predict.{Ending, semicolon, assignment}
-
-abbrev pub ending_of : code.Ending → Ending
-ending_of endings.Semicolon = semicolon
-ending_of endings.Assignment = assignment

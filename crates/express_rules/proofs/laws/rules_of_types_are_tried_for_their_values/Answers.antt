@@ -1,5 +1,0 @@
-use Rattle.express_rules.proofs.Tried.{rules_of_types_are_tried_for_their_values}
-use Rattle.express_rules.proofs.laws.rules_of_types_are_tried_for_their_values.Goals as goal
-
-pub returns : goal.returns
-returns c = rules_of_types_are_tried_for_their_values

@@ -1,6 +1,0 @@
-use Rattle.std.proofs.Common.{◌∙◌, ap}
-use Rattle.conformance.specs.Operations.{says}
-use Rattle.express_rules.proofs.outcome.said_of.Goals as goal
-
-pub returns : goal.returns
-returns c m = c.truth.ensures ∙ ap says (c.in_ok-value.ensures m)

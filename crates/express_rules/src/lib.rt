@@ -1,9 +1,0 @@
-//! What expressions are worth, and what domain rules say, at the instances of a population (ISO 10303-11, 9.1, 9.2.2.2
-//! and 12).
-#![tactic(auto)]
-
-pub mod check;
-pub mod evaluator;
-pub mod laws;
-mod outcome;
-pub mod report;

@@ -1,3 +1,0 @@
-pub mod Items
-pub mod OpenRuns
-pub mod Skips

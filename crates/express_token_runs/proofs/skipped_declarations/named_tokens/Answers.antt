@@ -1,0 +1,28 @@
+use Rattle.std.proofs.Common.{[], ◌∷◌, ◌∙◌, subst}
+use Rattle.std.proofs.lemmas.Result.{err_from_is_err_and}
+use Rattle.express_syntax.specs.Sources.{IsPassageAt}
+use Rattle.express_syntax.specs.steps.Predict.{Until, SkippedEnd}
+use Rattle.express_syntax.proofs.SameText.{passes_text}
+use Rattle.express_token_runs.proofs.SkippedSteps.{stops_second, passes_both, words_stand}
+use Rattle.express_token_runs.proofs.skipped_declarations.named_tokens.Goals as goal
+
+pub returns-in_err-tokens-clause-read : goal.returns-in_err-tokens-clause-read
+returns-in_err-tokens-clause-read c =
+    let p = err_from_is_err_and c.from_residual-in_err-tokens.result c.from_residual-in_err-tokens.ensures.1 in
+    rw (p.1, p.2) (stops_second _ (Until c.args.end.now ∷ SkippedEnd ∷ []) [] c.in_ok-name.ensures
+    c.in_err-tokens.ensures.read)
+
+pub returns-clause-read : goal.returns-clause-read
+returns-clause-read c = (c.in_ok-tokens.ensures.read.0, passes_both c.in_ok-name.ensures c.in_ok-tokens.ensures.read.1)
+
+pub returns-clause-text : goal.returns-clause-text
+returns-clause-text c = c.in_ok-tokens.ensures.text ∙ passes_text c.in_ok-name.ensures
+
+pub returns-clause-place : goal.returns-clause-place
+returns-clause-place c =
+    let mid = c.skipped_name.new.reader in (
+      mid.place,
+      words_stand _ [] c.in_ok-name.ensures,
+      subst (λ text. IsPassageAt text mid.place c.in_ok-tokens.tokens) (passes_text c.in_ok-name.ensures)
+          c.in_ok-tokens.ensures.place,
+    )

@@ -1,0 +1,6 @@
+pub mod Behind
+pub mod Ruled
+pub mod Nothing
+pub mod ByVerdict
+mod Weak
+mod Conforming

@@ -1,6 +1,0 @@
-mod Orders
-mod Along
-mod Sizing
-mod Placing
-mod Laying
-mod Spreading

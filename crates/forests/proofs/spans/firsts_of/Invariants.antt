@@ -1,8 +1,0 @@
-use Rattle.std.proofs.Common.{map, take}
-use Rattle.forests.specs.Spans.{ArePlaced}
-use Rattle.forests.proofs.spans.firsts_of.Given as goal
-
-abbrev pub invariant-loop-vertex : goal.invariant-loop-vertex
-invariant-loop-vertex l =
-    ArePlaced (map (λ v. v.items) l.edges) (take l.vertex-index l.order) l.spans.starts.items l.spans.sizes.items
-    l.firsts.items

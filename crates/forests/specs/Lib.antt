@@ -1,4 +1,0 @@
-pub mod Forests
-pub mod Telling
-pub mod Spans
-pub mod Marking

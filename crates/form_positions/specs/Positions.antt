@@ -1,9 +1,0 @@
--- Where the attributes of a form stand.
-use Rattle.std.specs.Prelude.{◌≡◌, ℕ, List, map}
-use Rattle.population_rows.specs.declared.form.SlotForm.{SlotForm}
-use Rattle.population_rows.specs.declared.index.RowIndex.{RowIndex}
-use Rattle.population_rows.specs.Index.{found, place_of}
-
--- the index tells where the attribute of a place stands first among these
-abbrev pub ArePositions : List SlotForm → RowIndex → Type 0
-ArePositions xs t = (q : ℕ) → found t q ≡ place_of (map (λ (x : SlotForm). x.place) xs) q

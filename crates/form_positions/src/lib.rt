@@ -1,4 +1,0 @@
-//! Where the attributes of a form stand, found at once.
-#![tactic(auto)]
-
-pub mod positions;

@@ -1,6 +1,0 @@
-mod Determining
-mod Starting
-mod SplitOff
-mod Sharing
-mod Standing
-mod Owning

@@ -1,4 +1,0 @@
-pub mod TableFaults
-pub mod Splits
-pub mod ComputedStarts
-pub mod ComputedSplits

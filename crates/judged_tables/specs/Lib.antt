@@ -1,3 +1,0 @@
-pub mod ClassesAt
-pub mod ComputedParents
-pub mod ComputedStability

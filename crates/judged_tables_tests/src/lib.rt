@@ -1,9 +1,0 @@
-//! Tests of `judged_grounds`: tables of small populations, judged by public items alone.
-#![tactic(auto)]
-
-#[cfg(test)]
-mod cases;
-#[cfg(test)]
-mod populations;
-#[cfg(test)]
-mod tables;

@@ -1,0 +1,62 @@
+-- The entities that a choice names, by the numbers of their declarations.
+use Rattle.std.specs.Prelude.{◌≡◌, ℕ, Bool, false, IsTrue, List, map, get_or, Some, String, string_bytes, bytes_eq}
+use Rattle.step_literals.specs.Words.{upper}
+use Rattle.express_syntax.specs.Schemas.{Schema, Declaration, type, entity, skipped, Entity}
+use Rattle.express_syntax.specs.declared.fault.NameFault.TheVariants.{UnknownName}
+use Rattle.express_syntax.specs.declared.fault.SchemaFault.{SchemaFault}
+use Rattle.express_syntax.specs.declared.fault.SchemaFault.TheVariants.{Text, Name as Faulted, Memory}
+use Rattle.schema_semantics.specs.Names.{Name, IsEntity}
+use Rattle.schema_names.specs.Numbers.{HasNumber, IsAt}
+use Rattle.conformance.specs.ParameterFits.{is_listed}
+use Rattle.conformance.specs.Choices as choices
+use Rattle.conformance.specs.Choices.{usual, given, usual_names, unknown_choice}
+use Rattle.merge_choices.specs.declared.choice.Names.{Names}
+use Rattle.merge_choices.specs.declared.choice.Names.TheVariants.{Usual, Given}
+use Rattle.merge_choices.specs.declared.choice.Choice.{Choice}
+use Rattle.merge_choices.specs.declared.choice.Chosen.{Chosen}
+
+abbrev pub in_capitals : {Z : Type 0} → String Z → Name
+in_capitals text = upper (string_bytes text)
+
+abbrev pub names_of : Names → choices.Choice
+names_of Usual = usual
+names_of (Given names) = given (map string_bytes names.items)
+
+-- the choice that a value of the program represents
+abbrev pub choice_of : Choice → choices.Choice
+choice_of c = names_of c.names
+
+-- the chosen names in capitals, with the usual names that a schema lacks
+abbrev pub names_in : choices.Choice → List Name
+names_in usual = usual_names
+names_in (given names) = map upper names
+
+-- whether the declaration is an entity of this name
+abbrev pub has_name : Name → Declaration → Bool
+has_name n (type t) = false
+has_name n (entity e) = bytes_eq n e.name
+has_name n (skipped p) = false
+
+-- whether the declaration is an entity with one of these names
+abbrev pub is_marked : List Name → Declaration → Bool
+is_marked names (type t) = false
+is_marked names (entity e) = is_listed e.name names
+is_marked names (skipped p) = false
+
+-- whether the number is chosen; false for a number that no declaration has
+abbrev pub is_chosen : Chosen → ℕ → Bool
+is_chosen c i = get_or c.marks.items i false
+
+-- An entity is chosen exactly if its name is one of these.
+abbrev pub AreChosen : Schema → List Name → Chosen → Type 0
+AreChosen s names c = (n : Name) (i : ℕ) → IsEntity s n → HasNumber s n i → is_chosen c i ≡ is_listed n names
+
+-- The declaration at each chosen number is an entity.
+abbrev pub AreOfEntities : Schema → Chosen → Type 0
+AreOfEntities s c = (i : ℕ) → IsTrue (is_chosen c i) → (x : Entity) × IsAt s i (entity x)
+
+-- The fault names the first given name that is no entity, in capitals; or memory ran out.
+abbrev pub IsChoiceFault : Schema → choices.Choice → SchemaFault → Type 0
+IsChoiceFault s choice (Text k place) = ⊥
+IsChoiceFault s choice (Faulted kind text) = (kind ≡ UnknownName) × (unknown_choice s choice ≡ Some (string_bytes text))
+IsChoiceFault s choice Memory = Unit {0}

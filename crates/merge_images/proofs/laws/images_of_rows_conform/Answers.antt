@@ -1,5 +1,0 @@
-use Rattle.merge_images.proofs.Conforming.{images_of_rows_conform}
-use Rattle.merge_images.proofs.laws.images_of_rows_conform.Goals as goal
-
-pub returns : goal.returns
-returns c = images_of_rows_conform c.images_conform.ensures

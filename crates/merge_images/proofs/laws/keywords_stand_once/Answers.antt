@@ -1,5 +1,0 @@
-use Rattle.merge_images.proofs.Keywords.{keywords_stand_once}
-use Rattle.merge_images.proofs.laws.keywords_stand_once.Goals as goal
-
-pub returns : goal.returns
-returns c = keywords_stand_once

@@ -1,3 +1,0 @@
-pub mod Layout
-pub mod Images
-pub mod Laws

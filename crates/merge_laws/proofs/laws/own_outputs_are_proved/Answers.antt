@@ -1,5 +1,0 @@
-use Rattle.merge_laws.proofs.Proving.{own_outputs_are_proved}
-use Rattle.merge_laws.proofs.laws.own_outputs_are_proved.Goals as goal
-
-pub returns : goal.returns
-returns c = own_outputs_are_proved c.checks_prove.ensures c.answers_are_one.ensures

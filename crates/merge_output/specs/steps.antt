@@ -1,0 +1,4 @@
+-- Steps on the way to a proof: a reader of what is promised need not believe these.
+pub mod Leading
+pub mod Rewriting
+pub mod Firsts

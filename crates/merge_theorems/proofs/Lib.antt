@@ -1,0 +1,20 @@
+pub mod Keywords
+pub mod Listing
+pub mod Filed
+pub mod Placed
+pub mod Led
+pub mod Conforming
+mod Examples
+pub mod Values
+pub mod Instances
+pub mod RowsLed
+pub mod Written
+pub mod Whole
+pub mod Headed
+pub mod Outputs
+pub mod Standing
+pub mod PinsLed
+pub mod PinsStay
+pub mod Again
+pub mod PinsFound
+pub mod Once

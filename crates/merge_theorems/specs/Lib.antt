@@ -1,0 +1,9 @@
+pub mod Layout
+pub mod Images
+pub mod ImageLaws
+pub mod FilePins
+pub mod MergedPopulations
+pub mod MergedFileLaws
+pub mod Headline
+pub mod StablePins
+pub mod TwoStepPins

@@ -1,2 +1,0 @@
-pub mod FirstMembers
-pub mod MergedRows

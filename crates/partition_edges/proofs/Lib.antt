@@ -1,0 +1,4 @@
+pub mod Searching
+pub mod Gathering
+pub mod Parting
+pub mod Agreement

@@ -1,0 +1,12 @@
+pub mod Turns
+pub mod PartedRounds
+pub mod Unique
+pub mod Leading
+pub mod Births
+pub mod Climbing
+pub mod Counting
+pub mod Writing
+pub mod Undoing
+pub mod Sorting
+pub mod Table
+pub mod Refined

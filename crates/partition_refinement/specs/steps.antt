@@ -1,0 +1,4 @@
+-- Steps on the way to a proof: a reader of what is promised need not believe these.
+pub mod Turns
+pub mod Working
+pub mod Origins

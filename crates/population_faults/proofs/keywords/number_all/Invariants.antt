@@ -1,9 +1,0 @@
-use Rattle.std.proofs.Common.{take, map, true}
-use Rattle.step_exchange.specs.Views.{record_in}
-use Rattle.schema_names.specs.Schemas.{the_schema}
-use Rattle.population_faults.specs.Keywords.{NumberAll}
-use Rattle.population_faults.proofs.keywords.number_all.Given as goal
-
-abbrev pub invariant-loop-i : goal.invariant-loop-i
-invariant-loop-i l =
-    NumberAll (the_schema l.names) (map record_in (take l.i l.partials)) l.entities.items true

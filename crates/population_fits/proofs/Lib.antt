@@ -1,8 +1,0 @@
-pub mod Numbered
-pub mod Elements
-pub mod Pushed
-pub mod Sorted
-pub mod Forms
-pub mod Pointwise
-pub mod Enumerated
-mod Integers

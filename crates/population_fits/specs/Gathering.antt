@@ -1,8 +1,0 @@
--- Which data types make a bag of elements.
-use Rattle.std.specs.Prelude.{Bool, false}
-use Rattle.conformance.specs.Bases.{Base, aggregate}
-use Rattle.conformance.specs.Fitting.{has_no_order}
-
-abbrev pub makes_bag : Base → Bool
-makes_bag (aggregate a) = has_no_order a.collection
-makes_bag b = false

@@ -1,0 +1,3 @@
+pub mod InverseReferences
+pub mod Extents
+pub mod steps

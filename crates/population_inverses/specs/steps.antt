@@ -1,0 +1,5 @@
+-- Steps on the way to a proof: a reader of what is promised need not believe these.
+pub mod Targets
+pub mod Findings
+pub mod Inverses
+pub mod Places

@@ -1,7 +1,0 @@
-use Rattle.std.proofs.Common.{◌≡◌, map, length, take}
-use Rattle.digraph.specs.Graphs.{graph_of, next}
-use Rattle.population_layouts.proofs.forms.own_counts.Given as goal
-
-abbrev pub invariant-loop-entity : goal.invariant-loop-entity
-invariant-loop-entity l =
-    l.counts.items ≡ map (λ i. length (next (graph_of l.known.own.now) i)) (take l.entity-index l.entities)

@@ -1,7 +1,0 @@
-use Rattle.population_layouts.proofs.Rising.{sorted-is}
-use Rattle.population_layouts.proofs.sorted.sorted.Goals as goal
-
-pub returns : goal.returns
-returns c =
-    sorted-is c.args.row.items c.sort_unstable.new.self.items c.dedup.new.self.items c.sort_unstable.ensures.permutation
-    c.sort_unstable.ensures.sorted c.dedup.ensures.filtered

@@ -1,7 +1,0 @@
-pub mod Marked
-pub mod Knowing
-pub mod Slots
-pub mod ComputedReferences
-pub mod Making
-pub mod Forms
-pub mod Tables

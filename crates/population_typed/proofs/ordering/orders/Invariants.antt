@@ -1,7 +1,0 @@
-use Rattle.std.proofs.Common.{take}
-use Rattle.schema_names.specs.Schemas.{the_schema}
-use Rattle.population_typed.specs.Ordering.{AreOrders}
-use Rattle.population_typed.proofs.ordering.orders.Given as goal
-
-abbrev pub invariant-loop-form : goal.invariant-loop-form
-invariant-loop-form l = AreOrders (the_schema l.names) (take l.form-index l.forms) l.orders.items

@@ -1,7 +1,0 @@
-use Rattle.std.proofs.Common.{◌≡◌, ◌++◌, map, take}
-use Rattle.population_typed.specs.Ordering.{position_among}
-use Rattle.population_typed.proofs.ordering.push_positions.Given as goal
-
-abbrev pub invariant-loop-number : goal.invariant-loop-number
-invariant-loop-number l =
-    l.positions.items ≡ l.fn.positions.items ++ map (position_among l.slots) (take l.number-index l.numbers)

@@ -1,5 +1,0 @@
-use Rattle.std.proofs.Common.{◌≡◌, Some, map, take}
-use Rattle.population_typed.proofs.ordering.told.Given as goal
-
-abbrev pub invariant-loop-position : goal.invariant-loop-position
-invariant-loop-position l = map Some l.told.items ≡ take l.position-index l.positions

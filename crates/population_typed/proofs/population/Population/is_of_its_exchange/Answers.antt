@@ -1,9 +1,0 @@
-use Rattle.std.proofs.Math.Logic.{∥∥₁_map}
-use Rattle.schema_names.specs.Schemas.{the_schema}
-use Rattle.population_typed.specs.Typed.{IsPopulation}
-use Rattle.population_typed.proofs.population.Population.is_of_its_exchange.Goals as goal
-
-pub returns : goal.returns
-returns c =
-    let p = c.args.self.now in
-    ∥∥₁_map p.typed (λ (w : IsPopulation (the_schema p.types.now.names) p.exchange.now p.rows p.values). w.typed)

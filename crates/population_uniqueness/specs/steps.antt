@@ -1,0 +1,5 @@
+-- Steps on the way to a proof: a reader of what is promised need not believe these.
+pub mod Parts
+pub mod Positions
+pub mod Keys
+pub mod Bounds

@@ -1,0 +1,10 @@
+use Rattle.devices.proofs.Printing.{emits_all, fails_with, then_print}
+use Rattle.reports.proofs.merge_lines.print_findings_of.Goals as goal
+
+pub returns-clause-emits : goal.returns-clause-emits
+returns-clause-emits g c =
+    emits_all c.new-printer.ensures (then_print c.print_role_findings.ensures c.print_role_rule_findings.ensures) c.finish.ensures
+
+pub returns-clause-failed : goal.returns-clause-failed
+returns-clause-failed g c =
+    fails_with c.new-printer.ensures (then_print c.print_role_findings.ensures c.print_role_rule_findings.ensures) c.finish.ensures

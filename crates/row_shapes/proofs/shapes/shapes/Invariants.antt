@@ -1,7 +1,0 @@
-use Rattle.step_equal.specs.Maps.{is_pinned}
-use Rattle.row_shapes.specs.ComputedShapes.{AreShapeNumbers}
-use Rattle.row_shapes.proofs.shapes.shapes.Given as goal
-
-abbrev pub invariant-loop-place : goal.invariant-loop-place
-invariant-loop-place l =
-    AreShapeNumbers l.start (is_pinned l.pinned) l.input l.numbers.items l.firsts.entries l.place

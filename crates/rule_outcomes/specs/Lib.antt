@@ -1,0 +1,3 @@
+pub mod Outcomes
+pub mod ReportCounts
+pub mod Laws

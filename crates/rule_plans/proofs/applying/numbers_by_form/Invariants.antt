@@ -1,7 +1,0 @@
-use Rattle.std.proofs.Common.{◌≡◌, map, take}
-use Rattle.rule_plans.specs.Applying.{numbers_by}
-use Rattle.rule_plans.proofs.applying.numbers_by_form.Given as goal
-
-abbrev pub invariant-loop-form : goal.invariant-loop-form
-invariant-loop-form l =
-    map (λ v. v.items) l.rows.items ≡ map (numbers_by l.rules 0) (take l.form-index l.forms)

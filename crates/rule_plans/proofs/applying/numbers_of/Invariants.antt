@@ -1,7 +1,0 @@
-use Rattle.std.proofs.Common.{◌≡◌, ◌++◌, drop}
-use Rattle.rule_plans.specs.Applying.{numbers_by}
-use Rattle.rule_plans.proofs.applying.numbers_of.Given as goal
-
-abbrev pub invariant-loop-number : goal.invariant-loop-number
-invariant-loop-number l =
-    l.numbers.items ++ numbers_by (drop l.number l.rules) l.number l.form ≡ numbers_by l.rules 0 l.form

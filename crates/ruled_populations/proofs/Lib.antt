@@ -1,2 +1,0 @@
-mod Weak
-mod Conforming

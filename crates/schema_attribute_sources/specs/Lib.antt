@@ -1,0 +1,4 @@
+pub mod SourceViews
+pub mod StoredAttributes
+pub mod Tables
+pub mod steps

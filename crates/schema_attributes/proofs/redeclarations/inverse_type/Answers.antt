@@ -1,0 +1,32 @@
+use Rattle.std.proofs.Common.{rules, tests, ◌∙◌, sym}
+use Rattle.std.proofs.lemmas.Iterator.Search.{position_from_yields_List}
+use Rattle.std.proofs.lemmas.Iterator.{YieldsList-from_slice}
+use Rattle.express_syntax.specs.ExpressionViews.{capitals}
+use Rattle.express_syntax.specs.Views.{inverse_of}
+use Rattle.schema_explicit_attributes.specs.steps.Owned.{is_own}
+use Rattle.schema_semantics.specs.Attributes.{collected}
+use Rattle.schema_attributes.specs.steps.Searching.{types_own, inverse_typing}
+use Rattle.schema_attributes.proofs.FirstTypes.{sought-none, sought-some, types-own-alone}
+use Rattle.schema_attributes.proofs.redeclarations.inverse_type.Goals as goal
+
+pub returns-in_err-place : goal.returns-in_err-place
+returns-in_err-place c =
+    let xs = c.args.inverses.now in
+    let a = capitals c.args.name in
+    let run =
+    position_from_yields_List (λ x. is_own a (inverse_of x).attribute) _ _ _ c.position.ensures.ran
+    (YieldsList-from_slice xs cc) (λ x b q k. search (rules, tests)) in
+    c.from_residual.ensures
+    ∙ sought-none inverse_of inverse_typing (types_own a) (λ x. is_own a (inverse_of x).attribute)
+    (λ x. types-own-alone a (inverse_of x).attribute (collected (inverse_of x).collection (inverse_of x).entity)) c.args.row.now xs (sym c.in_err-place.was ∙ run)
+
+pub returns : goal.returns
+returns c =
+    let xs = c.args.inverses.now in
+    let a = capitals c.args.name in
+    let run =
+    position_from_yields_List (λ x. is_own a (inverse_of x).attribute) _ _ _ c.position.ensures.ran
+    (YieldsList-from_slice xs cc) (λ x b q k. search (rules, tests)) in
+    c.number_at.ensures
+    ∙ sought-some inverse_of inverse_typing (types_own a) (λ x. is_own a (inverse_of x).attribute)
+    (λ x. types-own-alone a (inverse_of x).attribute (collected (inverse_of x).collection (inverse_of x).entity)) c.args.row.now xs c.in_ok-place.place (sym c.in_ok-place.was ∙ run)

@@ -1,4 +1,0 @@
-pub mod Seen
-pub mod Measures
-pub mod Making
-pub mod Tables

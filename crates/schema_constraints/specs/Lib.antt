@@ -1,0 +1,4 @@
+pub mod RuleViews
+pub mod Findings
+pub mod RuleTables
+pub mod steps

@@ -1,0 +1,4 @@
+pub mod Firsts
+pub mod AttributeRanks
+pub mod Formulas
+pub mod steps

@@ -1,0 +1,2 @@
+pub mod RuleViews
+pub mod steps

@@ -1,0 +1,23 @@
+use Rattle.std.proofs.Common.{rules, tests, ◌∙◌, ap, map}
+use Rattle.std.proofs.lemmas.Iterator.Search.{any_from_yields_List}
+use Rattle.std.proofs.lemmas.Iterator.{YieldsList-from_slice}
+use Rattle.express_syntax.specs.ExpressionViews.{capitals}
+use Rattle.express_syntax.specs.Views.{derived_of}
+use Rattle.express_syntax.specs.Schemas.{Derived}
+use Rattle.schema_semantics.specs.Names.{own_names}
+use Rattle.schema_explicit_attributes.specs.steps.Owned.{is_own, includes}
+use Rattle.schema_names.proofs.Clauses.{clause-listed}
+use Rattle.schema_explicit_attributes.proofs.Owning.{any-mapped, own-mapped}
+use Rattle.schema_explicit_attributes.proofs.own_attributes.any_derived.Goals as goal
+
+pub returns : goal.returns
+returns c =
+    let xs = c.derived_attributes.result.now in
+    let a = capitals c.args.name in
+    let run =
+    any_from_yields_List (λ x. is_own a (derived_of x).attribute) _ _ _ c.any.ensures.ran (YieldsList-from_slice xs cc)
+    (λ x b q k. search (rules, tests)) in
+    run ∙ any-mapped derived_of (λ (y : Derived). is_own a y.attribute) xs
+    ∙ own-mapped (λ (y : Derived). y.attribute) a (map derived_of xs)
+    ∙ ap (λ ys. includes (own_names (map (λ (y : Derived). y.attribute) ys)) a)
+    (clause-listed derived_of c.args.entity.now.derived xs c.derived_attributes.ensures)

@@ -1,0 +1,4 @@
+pub mod Supertypes
+pub mod Places
+pub mod SupertypeLines
+pub mod steps

@@ -1,0 +1,4 @@
+-- Steps on the way to a proof: a reader of what is promised need not believe these.
+pub mod Surveys
+pub mod Findings
+pub mod Questions

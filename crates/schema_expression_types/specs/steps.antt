@@ -1,0 +1,6 @@
+-- Steps on the way to a proof: a reader of what is promised need not believe these.
+pub mod Said
+pub mod Characters
+pub mod Scopes
+pub mod Paths
+pub mod Meanings

@@ -1,8 +1,0 @@
-use Rattle.std.proofs.Common.{sym, ◌∙◌}
-use Rattle.schema_references.specs.Taking.{schema_in}
-use Rattle.schema_expressions.proofs.meanings.meaning_of.Goals as goal
-
-pub returns-else-taken : goal.returns-else-taken
-returns-else-taken c =
-    c.item_meaning.ensures (c.in_default.ensures (schema_in c.args.scope.now.known))
-    (λ p m. let e = sym (c.in_ok-taken.ensures.some.1 (p, m)) ∙ c.if-taken.false in absurd (cc))

@@ -1,8 +1,0 @@
-use Rattle.std.proofs.Common.{◌≡◌, take}
-use Rattle.digraph.specs.Graphs.{graph_of}
-use Rattle.schema_references.specs.Choosing.{of_entities}
-use Rattle.schema_references.proofs.choosing.of_entities.Given as goal
-
-abbrev pub invariant-loop-declaration : goal.invariant-loop-declaration
-invariant-loop-declaration l =
-    l.chosen.items ≡ of_entities (graph_of l.above) l.entities (take l.declaration-index l.declarations)

@@ -1,6 +1,0 @@
-use Rattle.std.proofs.Common.{◌≡◌, take}
-use Rattle.schema_references.specs.Choosing.{of_owner}
-use Rattle.schema_references.proofs.choosing.of_owner.Given as goal
-
-abbrev pub invariant-loop-declaration : goal.invariant-loop-declaration
-invariant-loop-declaration l = l.chosen.items ≡ of_owner l.owner (take l.declaration-index l.declarations)

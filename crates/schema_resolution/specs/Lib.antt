@@ -1,0 +1,2 @@
+pub mod SchemaFindings
+pub mod SoundGraphs

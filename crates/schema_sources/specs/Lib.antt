@@ -1,8 +1,0 @@
-pub mod Seen
-pub mod Declaring
-pub mod Deriving
-pub mod Lowest
-pub mod Stored
-pub mod Tables
-pub mod Grouping
-pub mod Defined

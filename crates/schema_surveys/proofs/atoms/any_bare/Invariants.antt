@@ -1,8 +1,0 @@
-use Rattle.std.proofs.Common.{◌≡◌, drop, length}
-use Rattle.std.specs.List.{list_any}
-use Rattle.schema_surveys.specs.Questions.{is_bare_atom}
-use Rattle.schema_surveys.proofs.atoms.any_bare.Given as goal
-
--- what is left decides
-abbrev pub invariant-loop-atom : goal.invariant-loop-atom
-invariant-loop-atom l = list_any (is_bare_atom (length l.tables.data_types.now.forms.items)) (drop l.atom-index l.atoms) ≡ list_any (is_bare_atom (length l.tables.data_types.now.forms.items)) l.atoms

@@ -1,3 +1,0 @@
-pub mod Surveys
-pub mod Findings
-pub mod Questions

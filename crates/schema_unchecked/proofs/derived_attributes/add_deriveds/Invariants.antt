@@ -1,0 +1,13 @@
+use Rattle.std.proofs.Common.{map, take}
+use Rattle.express_syntax.specs.ExpressionViews.{capitals}
+use Rattle.express_syntax.specs.Views.{derived_of}
+use Rattle.schema_semantics.specs.Parts.{for_each, parts_of_derived}
+use Rattle.schema_attribute_references.specs.steps.Taking.{schema_in}
+use Rattle.schema_unchecked_declarations.specs.UncheckedLists.{Adds, unchecked_in}
+use Rattle.schema_unchecked.proofs.derived_attributes.add_deriveds.Given as goal
+
+abbrev pub invariant-loop-i : goal.invariant-loop-i
+invariant-loop-i l =
+    Adds (for_each (parts_of_derived (schema_in l.findings.known) (capitals l.holder))
+    (map derived_of (take l.i l.deriveds)))
+    (unchecked_in l.initial.list.items) (unchecked_in l.list.items)

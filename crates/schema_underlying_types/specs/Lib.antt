@@ -1,0 +1,4 @@
+pub mod BaseViews
+pub mod BaseEntries
+pub mod Tables
+pub mod steps

@@ -1,6 +1,0 @@
-mod Agreeing
-mod Refining
-mod Firsts
-mod Writing
-mod Heading
-mod Finding

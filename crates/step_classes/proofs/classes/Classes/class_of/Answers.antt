@@ -1,6 +1,0 @@
-use Rattle.std.proofs.Common.{◌∙◌, ap}
-use Rattle.step_equal.specs.Tables.{class_at}
-use Rattle.step_classes.proofs.classes.Classes.class_of.Goals as goal
-
-pub returns : goal.returns
-returns c = c.class_at.ensures ∙ ap (λ t. class_at t c.args.name t.rounds) c.self.view_is

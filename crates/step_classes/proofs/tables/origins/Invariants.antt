@@ -1,7 +1,0 @@
-use Rattle.std.proofs.Common.{◌≡◌, map, take}
-use Rattle.step_equal.specs.TableViews.{origin_of}
-use Rattle.step_tables.specs.Laws.{origin_in}
-use Rattle.step_classes.proofs.tables.origins.Given as goal
-
-abbrev pub invariant-loop-origin : goal.invariant-loop-origin
-invariant-loop-origin l = map origin_of l.classes.items ≡ map origin_in (take l.origin-index l.origins)

@@ -1,7 +1,0 @@
-use Rattle.std.proofs.Common.{◌≡◌, map, take, []}
-use Rattle.step_equal.specs.Views.{values_within}
-use Rattle.step_equal.proofs.laid.laid_down.Given as goal
-
-abbrev pub invariant-loop-row : goal.invariant-loop-row
-invariant-loop-row l =
-    l.builder ≡ record { names = l.names; rows = map values_within (take l.row-index l.rows); pending = [] }

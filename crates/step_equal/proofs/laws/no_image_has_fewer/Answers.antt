@@ -1,5 +1,0 @@
-use Rattle.step_equal.proofs.Counting.{no_image_has_fewer}
-use Rattle.step_equal.proofs.laws.no_image_has_fewer.Goals as goal
-
-pub returns : goal.returns
-returns c = no_image_has_fewer

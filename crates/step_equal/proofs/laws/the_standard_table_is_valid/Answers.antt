@@ -1,5 +1,0 @@
-use Rattle.step_equal.proofs.Rounds.{standard_is_valid}
-use Rattle.step_equal.proofs.laws.the_standard_table_is_valid.Goals as goal
-
-pub returns : goal.returns
-returns c = standard_is_valid

@@ -1,7 +1,0 @@
-use Rattle.std.proofs.Common.{◌≡◌, take}
-use Rattle.step_equal.specs.Rows.{names}
-use Rattle.step_equal.specs.Views.{rows_of}
-use Rattle.step_equal.proofs.parts.row_names.Given as goal
-
-abbrev pub invariant-loop-row : goal.invariant-loop-row
-invariant-loop-row l = l.names.items ≡ names (rows_of (take l.row-index l.rows))

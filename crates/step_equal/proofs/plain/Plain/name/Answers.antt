@@ -1,6 +1,0 @@
-use Rattle.step_equal.specs.Views.{row_seen}
-use Rattle.step_equal.proofs.Placing.{name_at}
-use Rattle.step_equal.proofs.plain.Plain.name.Goals as goal
-
-pub returns : goal.returns
-returns c = name_at c.args.self.now c.args.place (row_seen c.row.result) c.row.ensures

@@ -1,7 +1,0 @@
-use Rattle.step_equal.proofs.Settling.{sorted_words}
-use Rattle.step_equal.proofs.settled.settle.Goals as goal
-
-pub returns : goal.returns
-returns c =
-    sorted_words c.args.types.now.items c.sort.new.self.items c.dedup.new.self.items c.in_ok-sort.ensures.permutation
-    c.in_ok-sort.ensures.sorted c.dedup.ensures.filtered

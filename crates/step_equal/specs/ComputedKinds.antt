@@ -1,8 +1,0 @@
--- What the code computes; no promise stands here. Whether two kinds of rows are one.
-use Rattle.std.specs.Prelude.{◌==◌, ◌&&◌, Bool}
-use Rattle.std.specs.Str.{bytes_eq}
-use Rattle.step_values.specs.ComputedAgreement.{each_test}
-use Rattle.step_equal.specs.Rows.{Kind}
-
-abbrev pub kind_test : Kind → Kind → Bool
-kind_test a b = (a.0 == b.0) && each_test bytes_eq a.1 b.1

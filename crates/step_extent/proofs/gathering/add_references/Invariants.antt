@@ -1,7 +1,0 @@
-use Rattle.std.proofs.Common.{◌≡◌, ◌++◌, take}
-use Rattle.step_extent.specs.Targets.{references_to}
-use Rattle.step_extent.proofs.gathering.add_references.Given as goal
-
-abbrev pub invariant-loop-target : goal.invariant-loop-target
-invariant-loop-target l =
-    l.references.items ≡ l.fn.references.items ++ references_to (take l.target-index l.targets) l.referrer

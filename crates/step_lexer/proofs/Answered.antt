@@ -1,0 +1,28 @@
+-- A lexer has an answer.
+use Rattle.std.proofs.Common.{◌≡◌, ℕ, ◌+◌, List, length, take, sym, ap, refl, arith, length-take, subst, inl, inr}
+use Rattle.step_lexer.specs.Front.{IsFront}
+use Rattle.step_lexer.specs.Reading.{lexis}
+use Rattle.step_lexer.specs.Laws.{EachReadingHasAnAnswer}
+use Rattle.step_lexer.proofs.Standing.{token_at}
+use Rattle.step_lexer.proofs.LayoutFound.{layout_found}
+use Rattle.step_lexer.proofs.FrontFound.{FrontAt, front_found}
+use Rattle.parsing.proofs.Answered as lexing
+
+found : (l : List ℕ) (place : ℕ) → FrontAt l → lexing.FrontAt lexis l place
+found l place (inl f) =
+    let t = take f.1 l in
+    let len : length t ≡ f.1 = omega (arith, length-take f.1 l, f.2.within) in
+    inl (record {
+      token = token_at place f.0 t;
+      front = subst (IsFront l f.0) (sym len) f.2;
+      text = ap (λ n. take n l) (sym len);
+      at = refl;
+    })
+found l place (inr f) = inr (record { flaw = f.0; place = place + f.1 }, (f.1, f.2, refl))
+
+-- each reading has an answer
+pub answered : EachReadingHasAnAnswer
+answered = lexing.answered lexis (record {
+  layout_found = layout_found;
+  front_found = λ l place some. found l place (front_found l some);
+})

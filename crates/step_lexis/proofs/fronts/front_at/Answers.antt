@@ -1,5 +1,0 @@
-use Rattle.step_lexis.proofs.FrontLemmas.{mark_front}
-use Rattle.step_lexis.proofs.fronts.front_at.Goals as goal
-
-pub returns-in-Some : goal.returns-in-Some
-returns-in-Some c = mark_front c.args.bytes.now c.in-Some.mark c.requires c.in-Some.ensures.some

@@ -1,5 +1,0 @@
-use Rattle.step_lexis.proofs.Determined.{determined}
-use Rattle.step_lexis.proofs.laws.answers_are_determined.Goals as goal
-
-pub returns : goal.returns
-returns c = determined

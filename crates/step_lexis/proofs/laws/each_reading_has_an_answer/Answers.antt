@@ -1,5 +1,0 @@
-use Rattle.step_lexis.proofs.Answered.{answered}
-use Rattle.step_lexis.proofs.laws.each_reading_has_an_answer.Goals as goal
-
-pub returns : goal.returns
-returns c = answered

@@ -1,6 +1,0 @@
-use Rattle.step_pins.specs.Classes.{class_of}
-use Rattle.step_pins.proofs.Classmates.{IsGone}
-use Rattle.step_pins.proofs.classes.pin_classmates.Given as goal
-
-abbrev pub invariant-loop-name : goal.invariant-loop-name
-invariant-loop-name l = IsGone (class_of l.classes) l.names l.name-index l.firsts l.fn.pinned l.pinned

@@ -1,7 +1,0 @@
-//! Tests of the typed populations of small files, and of the instances that keep their identity.
-#![tactic(auto)]
-
-#[cfg(test)]
-mod pinned;
-#[cfg(test)]
-mod populations;

@@ -1,4 +1,0 @@
-pub mod Ordered
-pub mod Partitions
-pub mod Numbered
-pub mod Standard

@@ -1,4 +1,0 @@
-//! The standard numbers of classes as the table of a population.
-#![tactic(auto)]
-
-pub mod laws;

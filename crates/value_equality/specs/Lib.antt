@@ -1,0 +1,11 @@
+pub mod Rows
+pub mod ValueEquality
+pub mod Images
+pub mod Tables
+pub mod Standard
+pub mod Laws
+pub mod TableViews
+pub mod Views
+pub mod Maps
+pub mod SortedTypes
+pub mod steps

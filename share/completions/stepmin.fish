@@ -1,0 +1,13 @@
+# Completion of stepmin for fish.
+set -l commands check shrink verify plain help
+complete -c stepmin -n "not __fish_seen_subcommand_from $commands" -f
+complete -c stepmin -n "not __fish_seen_subcommand_from $commands" -a check -d "Report where a STEP file breaks its schema"
+complete -c stepmin -n "not __fish_seen_subcommand_from $commands" -a shrink -d "Write a smaller file and its certificate"
+complete -c stepmin -n "not __fish_seen_subcommand_from $commands" -a verify -d "Verify that OUT is FILE with equal instances merged"
+complete -c stepmin -n "not __fish_seen_subcommand_from $commands" -a plain -d "Print the header and one instance a line"
+complete -c stepmin -n "not __fish_seen_subcommand_from $commands" -a help -d "Print help"
+complete -c stepmin -n "not __fish_seen_subcommand_from $commands" -s V -l version -d "Print the version"
+complete -c stepmin -n "__fish_seen_subcommand_from help" -f -a "check shrink verify plain"
+complete -c stepmin -s h -l help -d "Print help"
+complete -c stepmin -n "__fish_seen_subcommand_from shrink verify" -l merge -x -d "Entities whose instances may be merged, with commas between"
+complete -c stepmin -n "__fish_seen_subcommand_from shrink" -l strict -d "Refuse a schema of which a part isn't checked"

@@ -1,0 +1,12 @@
+"""Writes a schema with three hundred derived attributes; each has the one before within thirty queries."""
+
+
+def expression(name):
+    """Returns the expression that uses an attribute."""
+    return "SIZEOF(QUERY(v <* SELF.l | " * 30 + name + ")) = 1" * 30
+
+
+with open("schema.exp", "w", encoding="ascii") as file:
+    file.write("SCHEMA geo;\nENTITY a; x : LOGICAL; l : LIST OF LOGICAL;\nDERIVE d0 : LOGICAL := x;\n")
+    file.writelines(f"d{k} : LOGICAL := {expression(f'd{k - 1}')};\n" for k in range(1, 300))
+    file.write("WHERE w : d299; END_ENTITY;\nEND_SCHEMA;\n")

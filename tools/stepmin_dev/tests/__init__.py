@@ -1,0 +1,1 @@
+"""The suites of `tools/dev test`: a module for each."""
