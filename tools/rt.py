@@ -151,7 +151,10 @@ def lanes():
 
 
 def main():
-    path = os.path.realpath(shutil.which("rt"))
+    found = shutil.which("rt")
+    if not found:
+        sys.exit("Rattle's toolchain isn't there: `rt` isn't found")
+    path = os.path.realpath(found)
     try:
         rt = load(path)
         prepare(rt.rtlib.Crate)

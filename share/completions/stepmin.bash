@@ -9,12 +9,12 @@ _stepmin() {
     COMPREPLY=()
     case $command in
         "") options="--help --version" ;;
-        shrink) options="--merge --strict --help" ;;
-        verify) options="--merge --help" ;;
+        shrink) options="--merge --in-sets --strict --help" ;;
+        verify) options="--merge --in-sets --help" ;;
         *) options="--help" ;;
     esac
     if [[ $before == --merge ]]; then
-        return
+        mapfile -t COMPREPLY < <(compgen -W "@points @styles @geometry @all" -- "$current")
     elif [[ $current == -* ]]; then
         mapfile -t COMPREPLY < <(compgen -W "$options" -- "$current")
     elif [[ -z $command || $command == help ]]; then

@@ -9,5 +9,6 @@ complete -c stepmin -n "not __fish_seen_subcommand_from $commands" -a help -d "P
 complete -c stepmin -n "not __fish_seen_subcommand_from $commands" -s V -l version -d "Print the version"
 complete -c stepmin -n "__fish_seen_subcommand_from help" -f -a "check shrink verify plain"
 complete -c stepmin -s h -l help -d "Print help"
-complete -c stepmin -n "__fish_seen_subcommand_from shrink verify" -l merge -x -d "Entities whose instances may be merged, with commas between"
+complete -c stepmin -n "__fish_seen_subcommand_from shrink verify" -l merge -x -a "@points @styles @geometry @all" -d "Entities whose instances may be merged, or presets, with commas between"
+complete -c stepmin -n "__fish_seen_subcommand_from shrink verify" -l in-sets -d "Also merge an instance that stands alone in a SET or BAG"
 complete -c stepmin -n "__fish_seen_subcommand_from shrink" -l strict -d "Refuse a schema of which a part isn't checked"

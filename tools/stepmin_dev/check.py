@@ -1,7 +1,7 @@
 """Checks a crate, or some functions of it, without proving the crates below it.
 
 Each FN is a path crate::module::function. Functions are checked one by one, and holes may be left.
-Without FN the whole crate is checked.
+An empty FN ('') checks syntax, names and types alone. Without FN the whole crate is checked.
 Crates below are taken as libraries if they are built here, or in FOLDER with the same text.
 FOLDER is another clone, in which `tools/dev gate` runs or ran.
 The others are read as sources, and nothing of them is proved.
@@ -94,7 +94,7 @@ def main(arguments):
     words, status = words_for(asked.crate, asked.gate, asked.jobs), 0
     for path in asked.paths or [None]:
         began = time.time()
-        only = ["--allow-holes", "--only", path] if path else []
+        only = [] if path is None else ["--allow-holes", f"--only={path}"]
         ran = subprocess.run([*words, *only], cwd=os.path.join(ROOT, "crates", asked.crate), stdout=subprocess.PIPE,
                              stderr=subprocess.STDOUT, text=True, check=False)
         print("\n".join(line for line in ran.stdout.splitlines() if not PROVED.match(line)))

@@ -3,6 +3,7 @@ import argparse
 import importlib
 import importlib.util
 import os
+import shutil
 import signal
 import sys
 
@@ -36,6 +37,16 @@ def run(module, arguments):
     return importlib.import_module(f"{__package__}.{module}").main(arguments)
 
 
+def is_missing_program(name):
+    """Whether a name that can't be opened is that of a program, such as `rt` or `valgrind`, that isn't installed."""
+    return isinstance(name, str) and "/" not in name and not shutil.which(name)
+
+
+def missing_program(name):
+    """A line that says that a program isn't installed."""
+    return "Rattle's toolchain isn't there: `rt` isn't found" if name == "rt" else f"`{name}` isn't found: install it"
+
+
 def main(arguments):
     """Runs a command with its arguments and returns its status."""
     width = max(map(len, COMMANDS))
@@ -50,6 +61,11 @@ def main(arguments):
     signal.signal(signal.SIGTERM, lambda *_: sys.exit(143))
     try:
         return run(command, arguments[1:])
+    except FileNotFoundError as error:
+        if not is_missing_program(error.filename):
+            raise
+        print(missing_program(error.filename), file=sys.stderr)
+        return 1
     except KeyboardInterrupt:
         return 130
     except BrokenPipeError:

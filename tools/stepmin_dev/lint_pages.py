@@ -5,15 +5,17 @@ import re
 
 from .sources import CRATES, ROOT, crates, files_below, items_of, lines_of, relative, text_of
 
-# The most words that pages may have together, as `wc -w` counts them.
+# The tables that `tools/dev bench --write` puts into a page.
+MEASURED = re.compile(r"(?s)(?<=<!--bench-->).*(?=<!--/bench-->)")
+# The most words that pages may have together without these tables, as `wc -w` counts them.
 WORDS = {
     ("README.md",): 900,
     ("CONTRIBUTING.md",): 500,
-    ("docs/USING.md",): 1200,
-    ("docs/FINDINGS.md", "docs/PINS.md"): 2400,
+    ("docs/USING.md",): 1450,
+    ("docs/FINDINGS.md", "docs/PINS.md"): 2650,
     ("docs/EXCHANGE.md", "docs/EXPRESS.md"): 4700,
     ("docs/MERGE.md",): 2000,
-    ("docs/PROVED.md",): 2500,
+    ("docs/PROVED.md",): 2520,
     ("docs/ARCHITECTURE.md",): 3000,
     ("docs/DECISIONS.md",): 3000,
     ("docs/SPEED.md",): 1500,
@@ -58,7 +60,7 @@ def word_faults():
     found = []
     for names, most in WORDS.items():
         paths = [it for it in names if os.path.exists(os.path.join(ROOT, it))]
-        words = sum(len(text_of(os.path.join(ROOT, it)).split()) for it in paths)
+        words = sum(len(MEASURED.sub("", text_of(os.path.join(ROOT, it))).split()) for it in paths)
         if words > most:
             found.append(f"{paths[0]}:1: {words} words{' with ' + paths[1] if len(paths) > 1 else ''}, at most {most}")
     limited = {it for names in WORDS for it in names} | set(WITHOUT_LIMIT)
@@ -157,7 +159,7 @@ def is_name(word):
 def is_path(path):
     """Whether a path leads to a file or folder: from the root, from crates/, or by its last name alone."""
     parts = path.split("/")
-    if parts[0] == "out" or any(it.isupper() or it.startswith(".stepmin-") for it in parts) or path.startswith("/"):
+    if parts[0] == "out" or any(it.isupper() or ".stepmin-" in it for it in parts) or path.startswith("/"):
         return True
     if len(parts) == 1:
         return path in names_of_files()

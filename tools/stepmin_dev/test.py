@@ -6,6 +6,7 @@
     size      schemas and files of full size, about a million instances each
     failing   memory that is refused, and system calls that fail, each in turn
     killed    runs of `shrink` that are killed at many moments
+    files     runs of `shrink` where a file of a user could be lost
     drawn     drawn populations, compared with another implementation
     real      files of your own, by a schema of your own, compared with another count
 
@@ -19,7 +20,7 @@ import sys
 from .commands import is_there, run
 from .options import parser_of, program_of
 
-SUITES = ("cases", "statuses", "pages", "size", "failing", "killed", "drawn", "real")
+SUITES = ("cases", "statuses", "pages", "size", "failing", "killed", "files", "drawn", "real")
 USUAL = ("cases", "statuses", "pages")
 
 

@@ -21,7 +21,7 @@ use Rattle.command_line.specs.Clap.{HasValues, Values, file_in, files_in, name_i
 use Rattle.command_line.specs.Requests.{CallFor, CallsFor, is_shown}
 use Rattle.command_line.specs.declared.command_words.Refusal.{Refusal}
 use Rattle.command_line.specs.declared.command_words.Refusal.TheVariants.{Shown, Usage, Memory}
-use Rattle.command_line.specs.Commands.{AreOfCommand, AreOperand, AreOperands, AsksCheck, AsksNothing, AsksPlain, Given, IsOperand, dashes, four}
+use Rattle.command_line.specs.Commands.{AreOfCommand, AreOperand, AreOperands, AsksCheck, AsksNothing, AsksPlain, Flags, Given, IsOperand, dashes, flags_of, four}
 use Rattle.command_line.proofs.Finishing.{command, given_by, given_fits, merging_fault, merging_values}
 use Rattle.command_line.proofs.Giving.{Fitting}
 use Rattle.command_line.proofs.Walking.{AreTexts, IsValue, at, below, below_check, check_asks, check_below, check_sub, fault_after, first_turn, is_value, names, no_option, none_first, plain_below, simple_and_free, simple_stepmin, some_kind, sub, sub_asks, top, top_asks, waits, walk_check, walk_plain}
@@ -416,9 +416,9 @@ merging_found words b all of fits are =
     (merging_values b of.0 of.1 all (given_fits b of.1 all of.3 fits are).1)
 
 -- four operands fit
-pub four_fit : (b : Bool) (schema file output certificate : Text) (merge : Option Text) (strict : Bool)
-    → (b ≡ false → strict ≡ false) → Fitting b (four schema file output certificate merge strict)
-four_fit b schema file output certificate merge strict takes = (omega arith, takes)
+pub four_fit : (b : Bool) (schema file output certificate : Text) (merge : Option Text) (flags : Flags)
+    → (b ≡ false → flags.strict ≡ false) → Fitting b (four schema file output certificate merge flags)
+four_fit b schema file output certificate merge flags takes = (omega arith, takes)
 
 -- the words ask for something, or say what can't be meant, or ask for nothing
 pub asks_or_not : (words : List Text) → AreTexts words → AreAny words ⊎ AsksNothing words
@@ -429,12 +429,12 @@ asks_or_not words texts = go (fault_of stepmin_app words) refl
     go (k ∷ ks) some = inr (
       (λ path asks. some_kind k ks (sym some ∙ asked_fits words path asks)),
       (λ schema file asks. some_kind k ks (sym some ∙ check_fits words schema file asks)),
-      (λ schema file output certificate merge strict asks. some_kind k ks (sym some
-          ∙ merging_fits words true (four schema file output certificate merge strict) asks.0
-          (four_fit true schema file output certificate merge strict (λ e. absurd (true≢false e))) refl)),
-      (λ schema file output certificate merge asks. some_kind k ks (sym some
-          ∙ merging_fits words false (four schema file output certificate merge false) asks.0
-          (four_fit false schema file output certificate merge false (λ e. refl)) refl)),
+      (λ schema file output certificate merge flags asks. some_kind k ks (sym some
+          ∙ merging_fits words true (four schema file output certificate merge flags) asks.0
+          (four_fit true schema file output certificate merge flags (λ e. absurd (true≢false e))) refl)),
+      (λ schema file output certificate merge in_sets asks. some_kind k ks (sym some
+          ∙ merging_fits words false (four schema file output certificate merge (flags_of in_sets false)) asks.0
+          (four_fit false schema file output certificate merge (flags_of in_sets false) (λ e. refl)) refl)),
     )
 
 pub are_texts : {Z : Type 0} (words : List (String Z)) → AreTexts (map string_bytes words)

@@ -4,7 +4,7 @@ use Rattle.clap.specs.Faults.{fault_of}
 use Rattle.clap.specs.declared.error.kind.ErrorKind.TheVariants as kind
 use Rattle.clap.proofs.OnLiterals.{clap_on_literals}
 use Rattle.command_line.specs.Clap.{stepmin_app}
-use Rattle.command_line.specs.Commands.{AsksPlain, AsksShrink, clash, merge_option, one_operand, only_operands, strict_option}
+use Rattle.command_line.specs.Commands.{AsksPlain, AsksShrink, clash, flags_of, in_sets_option, merge_option, one_operand, only_operands, strict_option}
 
 abbrev program : List ℕ
 program = codes "stepmin"
@@ -46,17 +46,17 @@ help_below : fault_of stepmin_app (program ∷ codes "plain" ∷ codes "F" ∷ c
 unfolding clap_on_literals
 help_below = refl
 
--- `stepmin shrink S --strict F --merge P,Q O -- -C`
+-- `stepmin shrink S --strict F --merge P,Q O --in-sets -- -C`
 options_anywhere : AsksShrink (program ∷ codes "shrink" ∷ codes "S" ∷ codes "--strict" ∷ codes "F" ∷ codes "--merge"
-    ∷ codes "P,Q" ∷ codes "O" ∷ codes "--" ∷ codes "-C" ∷ []) (codes "S") (codes "F") (codes "O") (codes "-C")
-    (Some (codes "P,Q")) true
+    ∷ codes "P,Q" ∷ codes "O" ∷ codes "--in-sets" ∷ codes "--" ∷ codes "-C" ∷ []) (codes "S") (codes "F") (codes "O") (codes "-C")
+    (Some (codes "P,Q")) (flags_of true true)
 options_anywhere = (
   (
     program,
     _,
     refl,
     one_operand tt (strict_option refl (one_operand tt
-        (merge_option refl (λ e. omega (arith, e)) (one_operand tt only_operands)))),
+        (merge_option refl (λ e. omega (arith, e)) (one_operand tt (in_sets_option refl only_operands))))),
   ),
   refl,
 )
@@ -79,6 +79,18 @@ empty_name = refl
 no_names : clash (codes "S") (codes "F") (codes "O") (codes "C") (Some [])
     ≡ Some (codes "error: a name in NAMES is empty\n")
 no_names = refl
+
+preset_in_capitals : clash (codes "S") (codes "F") (codes "O") (codes "C") (Some (codes "@Points,@STYLES,P")) ≡ None
+preset_in_capitals = refl
+
+unknown_preset : clash (codes "S") (codes "F") (codes "O") (codes "C") (Some (codes "@lines"))
+    ≡ Some (codes "error: a preset in NAMES isn't one of @points, @styles, @geometry, @all\n")
+unknown_preset = refl
+
+in_sets_twice : fault_of stepmin_app (program ∷ codes "verify" ∷ codes "--in-sets" ∷ codes "S" ∷ codes "F" ∷ codes "O"
+    ∷ codes "C" ∷ codes "--in-sets" ∷ []) ≡ kind.ArgumentConflict ∷ []
+unfolding clap_on_literals
+in_sets_twice = refl
 
 strict_verify : fault_of stepmin_app (program ∷ codes "verify" ∷ codes "S" ∷ codes "F" ∷ codes "O" ∷ codes "C"
     ∷ codes "--strict" ∷ []) ≡ kind.UnknownArgument ∷ []

@@ -12,9 +12,9 @@ use Rattle.clap.proofs.OnLiterals.{clap_on_literals}
 use Rattle.clap.specs.declared.builder.value_parser.Reading.TheVariants as reading
 use Rattle.clap.specs.declared.parser.matches.ValueSource.TheVariants.{DefaultValue}
 use Rattle.command_line.specs.Clap.{HasValues, Values, stepmin_app, values_in, values_of}
-use Rattle.command_line.specs.Commands.{Given, Gives, nothing_given}
+use Rattle.command_line.specs.Commands.{Flags, Given, Gives, flags_of, nothing_given}
 use Rattle.command_line.proofs.Rows.{at_end, first_given, found, found_kept, found_new, given_row, has_found}
-use Rattle.command_line.proofs.Levels.{Holds, given, level, merge_built, operand_rule, rules, stands_nothing, strict_built}
+use Rattle.command_line.proofs.Levels.{Holds, given, in_sets_built, level, merge_built, operand_rule, rules, stands_nothing, strict_built}
 use Rattle.command_line.proofs.Giving.{Fitting, ends, gives}
 use Rattle.command_line.proofs.Walking.{AreTexts, after, fault_after, fold_stopped, names, none_first, none_second, only_first, some_kind, stopped, top, waits, walk_stopped}
 
@@ -75,27 +75,35 @@ six_fit rows last = passed_fault rows (operand_rule (codes "SCHEMA") 1) (behind_
     ∙ passed_fault rows (operand_rule (codes "CERT") 4) (behind_operands last) refl
     ∙ passed_fault rows merge_built last refl
 
-ended_with : (b : Bool) (rows : List Row)
-    → fold with_default rows (rules b) ≡ (if b then with_default rows strict_built else rows)
-ended_with true rows = six_passed rows (strict_built ∷ help_built ∷ [])
-    ∙ no_default (with_default rows strict_built) help_built refl
-ended_with false rows = six_passed rows (help_built ∷ []) ∙ no_default rows help_built refl
+ended_with : (b : Bool) (rows : List Row) → fold with_default rows (rules b)
+    ≡ (if b then with_default (with_default rows in_sets_built) strict_built else with_default rows in_sets_built)
+ended_with true rows = six_passed rows (in_sets_built ∷ strict_built ∷ help_built ∷ [])
+    ∙ no_default (with_default (with_default rows in_sets_built) strict_built) help_built refl
+ended_with false rows = six_passed rows (in_sets_built ∷ help_built ∷ [])
+    ∙ no_default (with_default rows in_sets_built) help_built refl
+
+abbrev no_kinds : Kinds
+no_kinds = []
+
+either_way : (b : Bool) → (if b || false then no_kinds else no_kinds) ≡ no_kinds
+either_way true = refl
+either_way false = refl
+
+in_sets_default_fits : (rows : List Row) → default_fault rows in_sets_built ≡ []
+in_sets_default_fits rows = either_way (has_row (codes "in-sets") rows)
 
 strict_default_fits : (rows : List Row) → default_fault rows strict_built ≡ []
-strict_default_fits rows = go (has_row (codes "strict") rows)
-  where
-    no_kinds : Kinds
-    no_kinds = []
-
-    go : (b : Bool) → (if b || false then no_kinds else no_kinds) ≡ no_kinds
-    go true = refl
-    go false = refl
+strict_default_fits rows = either_way (has_row (codes "strict") rows)
 
 defaults_fit : (b : Bool) (rows : List Row) → defaults_fault rows (rules b) ≡ []
 unfolding defaults_fault
-defaults_fit true rows = six_fit rows (strict_built ∷ help_built ∷ [])
-    ∙ ap₂ or_else (strict_default_fits rows) (passed_fault (with_default rows strict_built) help_built [] refl)
-defaults_fit false rows = six_fit rows (help_built ∷ []) ∙ passed_fault rows help_built [] refl
+defaults_fit true rows =
+    let marked = with_default rows in_sets_built in
+    six_fit rows (in_sets_built ∷ strict_built ∷ help_built ∷ [])
+    ∙ ap₂ or_else (in_sets_default_fits rows) (ap₂ or_else (strict_default_fits marked)
+    (passed_fault (with_default marked strict_built) help_built [] refl))
+defaults_fit false rows = six_fit rows (in_sets_built ∷ help_built ∷ [])
+    ∙ ap₂ or_else (in_sets_default_fits rows) (passed_fault (with_default rows in_sets_built) help_built [] refl)
 
 -- ---- the rows in the end
 
@@ -105,17 +113,35 @@ pub record Final (b : Bool) (all : Given) (rows : List Row) : Type 0 where
   pub output : found (codes "OUT") rows ≡ option_map (given_row (codes "OUT")) (slice_get all.operands 2)
   pub certificate : found (codes "CERT") rows ≡ option_map (given_row (codes "CERT")) (slice_get all.operands 3)
   pub merge : found (codes "merge") rows ≡ option_map (given_row (codes "merge")) all.merge
+  pub in_sets : one_of (codes "in-sets") rows ≡ Some (if all.flags.in_sets then codes "true" else codes "false")
   pub flag : one_of (codes "strict") rows
-      ≡ (if b then Some (if all.strict then codes "true" else codes "false") else None)
+      ≡ (if b then Some (if all.flags.strict then codes "true" else codes "false") else None)
 
-abbrev default_row : Row
-default_row = record {
-  id = codes "strict";
+-- the rows once `--in-sets` has its default
+record Marked (all : Given) (rows : List Row) : Type 0 where
+  pub schema : found (codes "SCHEMA") rows ≡ option_map (given_row (codes "SCHEMA")) (slice_get all.operands 0)
+  pub file : found (codes "FILE") rows ≡ option_map (given_row (codes "FILE")) (slice_get all.operands 1)
+  pub output : found (codes "OUT") rows ≡ option_map (given_row (codes "OUT")) (slice_get all.operands 2)
+  pub certificate : found (codes "CERT") rows ≡ option_map (given_row (codes "CERT")) (slice_get all.operands 3)
+  pub merge : found (codes "merge") rows ≡ option_map (given_row (codes "merge")) all.merge
+  pub in_sets : one_of (codes "in-sets") rows ≡ Some (if all.flags.in_sets then codes "true" else codes "false")
+  pub strict : found (codes "strict") rows ≡ (if all.flags.strict then Some (given_row (codes "strict") (codes "true"))
+      else None)
+
+abbrev default_row : Text → Row
+default_row id = record {
+  id = id;
   values = codes "false" ∷ [];
   count = None;
   source = Some DefaultValue;
   reading = reading.AsWritten;
 }
+
+in_sets_rows : (rows : List Row) (o : Option Row) → found (codes "in-sets") rows ≡ o → with_default rows in_sets_built
+    ≡ (if is_some o then rows else with_values (codes "in-sets") reading.AsWritten DefaultValue (codes "false" ∷ []) rows)
+in_sets_rows rows o is = ap (λ (b : Bool). if b then rows
+    else with_values (codes "in-sets") reading.AsWritten DefaultValue (codes "false" ∷ []) rows)
+    (has_found (codes "in-sets") rows ∙ ap is_some is)
 
 strict_rows : (rows : List Row) (o : Option Row) → found (codes "strict") rows ≡ o → with_default rows strict_built
     ≡ (if is_some o then rows else with_values (codes "strict") reading.AsWritten DefaultValue (codes "false" ∷ []) rows)
@@ -123,44 +149,81 @@ strict_rows rows o is = ap (λ (b : Bool). if b then rows
     else with_values (codes "strict") reading.AsWritten DefaultValue (codes "false" ∷ []) rows)
     (has_found (codes "strict") rows ∙ ap is_some is)
 
-final_strict : (os : List Text) (m : Option Text) (s : Bool) (rows : List Row) → Holds (given os m s) rows
-    → Final true (given os m s) (with_default rows strict_built)
-final_strict os m true rows h = subst (Final true (given os m true)) (sym (strict_rows rows _ h.strict)) (record {
+marked : (os : List Text) (m : Option Text) (i t : Bool) (rows : List Row) → Holds (given os m (flags_of i t)) rows
+    → Marked (given os m (flags_of i t)) (with_default rows in_sets_built)
+marked os m true t rows h = subst (Marked (given os m (flags_of true t))) (sym (in_sets_rows rows _ h.in_sets)) (record {
   schema = h.schema;
   file = h.file;
   output = h.output;
   certificate = h.certificate;
   merge = h.merge;
-  flag = ap (option_and_then row_text) h.strict;
+  in_sets = ap (option_and_then row_text) h.in_sets;
+  strict = h.strict;
 })
-final_strict os m false rows h = subst (Final true (given os m false))
-    (sym (strict_rows rows None h.strict ∙ at_end (codes "strict") (more_values DefaultValue (codes "false" ∷ [])) (default_row ∷ []) rows h.strict)) (record {
-      schema = found_kept _ rows default_row refl ∙ h.schema;
-      file = found_kept _ rows default_row refl ∙ h.file;
-      output = found_kept _ rows default_row refl ∙ h.output;
-      certificate = found_kept _ rows default_row refl ∙ h.certificate;
-      merge = found_kept _ rows default_row refl ∙ h.merge;
-      flag = ap (option_and_then row_text) (found_new (codes "strict") rows default_row refl h.strict);
+marked os m false t rows h =
+    let row = default_row (codes "in-sets") in
+    subst (Marked (given os m (flags_of false t))) (sym (in_sets_rows rows None h.in_sets
+    ∙ at_end (codes "in-sets") (more_values DefaultValue (codes "false" ∷ [])) (row ∷ []) rows h.in_sets)) (record {
+      schema = found_kept _ rows row refl ∙ h.schema;
+      file = found_kept _ rows row refl ∙ h.file;
+      output = found_kept _ rows row refl ∙ h.output;
+      certificate = found_kept _ rows row refl ∙ h.certificate;
+      merge = found_kept _ rows row refl ∙ h.merge;
+      in_sets = ap (option_and_then row_text) (found_new (codes "in-sets") rows row refl h.in_sets);
+      strict = found_kept _ rows row refl ∙ h.strict;
     })
 
-final_plain : (os : List Text) (m : Option Text) (rows : List Row) → Holds (given os m false) rows
-    → Final false (given os m false) rows
-final_plain os m rows h = record {
+final_strict : (os : List Text) (m : Option Text) (i t : Bool) (rows : List Row) → Marked (given os m (flags_of i t)) rows
+    → Final true (given os m (flags_of i t)) (with_default rows strict_built)
+final_strict os m i true rows h = subst (Final true (given os m (flags_of i true))) (sym (strict_rows rows _ h.strict)) (record {
   schema = h.schema;
   file = h.file;
   output = h.output;
   certificate = h.certificate;
   merge = h.merge;
+  in_sets = h.in_sets;
+  flag = ap (option_and_then row_text) h.strict;
+})
+final_strict os m i false rows h =
+    let row = default_row (codes "strict") in
+    subst (Final true (given os m (flags_of i false))) (sym (strict_rows rows None h.strict
+    ∙ at_end (codes "strict") (more_values DefaultValue (codes "false" ∷ [])) (row ∷ []) rows h.strict)) (record {
+      schema = found_kept _ rows row refl ∙ h.schema;
+      file = found_kept _ rows row refl ∙ h.file;
+      output = found_kept _ rows row refl ∙ h.output;
+      certificate = found_kept _ rows row refl ∙ h.certificate;
+      merge = found_kept _ rows row refl ∙ h.merge;
+      in_sets = ap (option_and_then row_text) (found_kept (codes "in-sets") rows row refl) ∙ h.in_sets;
+      flag = ap (option_and_then row_text) (found_new (codes "strict") rows row refl h.strict);
+    })
+
+final_plain : (os : List Text) (m : Option Text) (i : Bool) (rows : List Row) → Marked (given os m (flags_of i false)) rows
+    → Final false (given os m (flags_of i false)) rows
+final_plain os m i rows h = record {
+  schema = h.schema;
+  file = h.file;
+  output = h.output;
+  certificate = h.certificate;
+  merge = h.merge;
+  in_sets = h.in_sets;
   flag = ap (option_and_then row_text) h.strict;
 }
 
 final_rows : (b : Bool) (all : Given) (rows : List Row) → Fitting b all → Holds all rows
     → Final b all (fold with_default rows (rules b))
-final_rows true all rows fits h = subst (Final true all) (sym (ended_with true rows))
-    (final_strict all.operands all.merge all.strict rows h)
-final_rows false all rows fits h = subst (Final false all) (sym (ended_with false rows))
-    (subst (λ s. Final false (given all.operands all.merge s) rows) (sym (fits.1 refl))
-    (final_plain all.operands all.merge rows (subst (λ s. Holds (given all.operands all.merge s) rows) (fits.1 refl) h)))
+final_rows true all rows fits h =
+    let flags = all.flags in
+    subst (Final true all) (sym (ended_with true rows))
+    (final_strict all.operands all.merge flags.in_sets flags.strict (with_default rows in_sets_built)
+    (marked all.operands all.merge flags.in_sets flags.strict rows h))
+final_rows false all rows fits h =
+    let flags = all.flags in
+    let after = with_default rows in_sets_built in
+    subst (Final false all) (sym (ended_with false rows))
+    (subst (λ s. Final false (given all.operands all.merge (flags_of flags.in_sets s)) after) (sym (fits.1 refl))
+    (final_plain all.operands all.merge flags.in_sets after
+    (subst (λ s. Marked (given all.operands all.merge (flags_of flags.in_sets s)) after) (fits.1 refl)
+    (marked all.operands all.merge flags.in_sets flags.strict rows h))))
 
 pub values : (b : Bool) (all : Given) (rows : List Row) → Final b all rows → values_in rows ≡ values_of b all
 values b all rows f = λ i. (
@@ -169,6 +232,7 @@ values b all rows f = λ i. (
   first_given (codes "OUT") rows (slice_get all.operands 2) f.output i,
   first_given (codes "CERT") rows (slice_get all.operands 3) f.certificate i,
   first_given (codes "merge") rows all.merge f.merge i,
+  f.in_sets i,
   f.flag i,
 )
 
@@ -186,13 +250,13 @@ check_is : (b : Bool) (rows : List Row) → check_fault (level b) rows false ≡
 check_is true rows = refl
 check_is false rows = refl
 
-checks : (b : Bool) (os : List Text) (m : Option Text) (s : Bool) (rows : List Row) → Final b (given os m s) rows
+checks : (b : Bool) (os : List Text) (m : Option Text) (s : Flags) (rows : List Row) → Final b (given os m s) rows
     → check_fault (level b) rows false ≡ missing (option_map (given_row (codes "SCHEMA")) (slice_get os 0))
     (option_map (given_row (codes "FILE")) (slice_get os 1)) (option_map (given_row (codes "OUT")) (slice_get os 2))
     (option_map (given_row (codes "CERT")) (slice_get os 3))
 checks b os m s rows f = check_is b rows ∙ (λ i. missing (f.schema i) (f.file i) (f.output i) (f.certificate i))
 
-four_given : (b : Bool) (os : List Text) (m : Option Text) (s : Bool) (rows : List Row) → Final b (given os m s) rows
+four_given : (b : Bool) (os : List Text) (m : Option Text) (s : Flags) (rows : List Row) → Final b (given os m s) rows
     → length os ≤ 4 → check_fault (level b) rows false ≡ [] → length os ≡ 4
 four_given b [] m s rows f few e = absurd (some_kind _ _ (sym (checks b [] m s rows f) ∙ e))
 four_given b (x ∷ []) m s rows f few e = absurd (some_kind _ _ (sym (checks b (x ∷ []) m s rows f) ∙ e))
@@ -202,7 +266,7 @@ four_given b (x ∷ y ∷ z ∷ []) m s rows f few e =
 four_given b (x ∷ y ∷ z ∷ w ∷ []) m s rows f few e = refl
 four_given b (x ∷ y ∷ z ∷ w ∷ v ∷ rest) m s rows f few e = absurd (omega (arith, few))
 
-all_given : (b : Bool) (os : List Text) (m : Option Text) (s : Bool) (rows : List Row) → Final b (given os m s) rows
+all_given : (b : Bool) (os : List Text) (m : Option Text) (s : Flags) (rows : List Row) → Final b (given os m s) rows
     → length os ≡ 4 → check_fault (level b) rows false ≡ []
 all_given b [] m s rows f is = absurd (omega (arith, is))
 all_given b (x ∷ []) m s rows f is = absurd (omega (arith, is))
@@ -238,7 +302,7 @@ given_fits b words all by fits are =
     let f = final_rows b all rows fits e.stands.holds in
     let ending : end_fault b (waits e.rows e.pending) ≡ [] =
     ap₂ or_else e.stands.fits (ap₂ or_else (defaults_fit b rows)
-    (all_given b all.operands all.merge all.strict (fold with_default rows (rules b)) f are)) in (
+    (all_given b all.operands all.merge all.flags (fold with_default rows (rules b)) f are)) in (
       below_is b words ∙ ap₂ or_else e.fits (ap (end_fault b) e.held ∙ ending),
       ap (λ (h : Held). values_in (finished (rules b) h)) e.held
           ∙ values b all (fold with_default rows (rules b)) f,
@@ -262,7 +326,7 @@ given_by b words texts none =
       all,
       found.1,
       found.2,
-      four_given b all.operands all.merge all.strict (fold with_default rows (rules b))
+      four_given b all.operands all.merge all.flags (fold with_default rows (rules b))
           (final_rows b all rows found.2 done.stands.holds) found.2.0
           (sym (ap (λ (h : Held). check_fault (level b) (finished (rules b) h) false) done.held) ∙ checked),
     )

@@ -11,11 +11,11 @@ use Rattle.clap.specs.Walk.{Held, Row, Rule, Text, Waiting, Walk, arg_by_long, h
 use Rattle.clap.specs.Faults.{bundle_fault, long_fault, option_fault, react_fault, settle_fault, step_fault, turn_fault, use_fault, walk_fault, word_fault}
 use Rattle.clap.specs.declared.error.kind.ErrorKind.{ErrorKind}
 use Rattle.clap.specs.declared.error.kind.ErrorKind.TheVariants as kind
-use Rattle.command_line.specs.Commands.{Given, Gives, IsOperand, dashes, merge_equals, merge_option, nothing, one_operand, only_operands, strict_option}
+use Rattle.command_line.specs.Commands.{Flags, Given, Gives, IsOperand, dashes, flags_of, in_sets_option, merge_equals, merge_option, nothing, one_operand, only_operands, strict_option}
 use Rattle.command_line.proofs.Rows.{found, has_found}
-use Rattle.command_line.proofs.Levels.{Holds, Stands, fresh, given, level, merge_built, next, one_use, operand_fits, operand_moves, operand_refused, place, rules, single_merge, stand, stands_joined, stands_merge, stands_nothing, stands_operand, stands_strict, strict_built}
+use Rattle.command_line.proofs.Levels.{Holds, Stands, fresh, given, in_sets_built, level, merge_built, next, one_use, operand_fits, operand_moves, operand_refused, place, rules, single_merge, stand, stands_in_sets, stands_joined, stands_merge, stands_nothing, stands_operand, stands_strict, strict_built}
 use Rattle.command_line.proofs.Steps as steps
-use Rattle.command_line.proofs.Steps.{IsNamed, dashes_turn, dashes_walk, joined_turn, joined_walk, merge_turn, merge_walk, named, names_turn, names_walk, short_asks, spelt, strict_turn, strict_walk, trailing_turn, trailing_walk, unnamed, value_turn, value_walk}
+use Rattle.command_line.proofs.Steps.{IsNamed, dashes_turn, dashes_walk, in_sets_turn, in_sets_walk, joined_turn, joined_walk, merge_turn, merge_walk, named, names_turn, names_walk, short_asks, spelt, strict_turn, strict_walk, trailing_turn, trailing_walk, unnamed, value_turn, value_walk}
 use Rattle.command_line.proofs.Walking.{AreTexts, LooksShort, begins, cut_text, first_turn, flags_refused, long_refused, looks_short, none_first, none_second, some_kind, waits}
 
 -- ---- a walk that goes on
@@ -61,24 +61,25 @@ ended b trailing rows pending p all s =
 -- ---- what is given fits
 
 abbrev pub Fitting : Bool → Given → Type 0
-Fitting b all = (length all.operands ≤ 4) × (b ≡ false → all.strict ≡ false)
+Fitting b all = (length all.operands ≤ 4) × (b ≡ false → all.flags.strict ≡ false)
 
 one_longer : (os : List Text) (w : Text) → length (os ++ w ∷ []) ≡ length os + 1
 one_longer os w = length-append os (w ∷ [])
 
 grows : {before after : Given} {words : List Text} → Gives before words after
-    → (length before.operands ≤ length after.operands) × (before.strict ≡ true → after.strict ≡ true)
+    → (length before.operands ≤ length after.operands) × (before.flags.strict ≡ true → after.flags.strict ≡ true)
 grows nothing = (omega arith, λ e. e)
 grows (one_operand {before = before} {word = word} is more) =
     let g = grows more in
     (omega (arith, g.0, one_longer before.operands word), g.1)
+grows (in_sets_option absent more) = let g = grows more in (g.0, g.1)
 grows (strict_option absent more) = let g = grows more in (g.0, λ e. g.1 refl)
 grows (merge_option absent is more) = let g = grows more in (g.0, g.1)
 grows (merge_equals absent more) = let g = grows more in (g.0, g.1)
 grows (only_operands {before = before} {operands = operands}) =
     (omega (arith, length-append before.operands operands), λ e. e)
 
-trailing_ends : (b : Bool) (words : List Text) (os : List Text) (m : Option Text) (s : Bool) (rows : List Row)
+trailing_ends : (b : Bool) (words : List Text) (os : List Text) (m : Option Text) (s : Flags) (rows : List Row)
     (pending : Option (Text × List Text)) → length (os ++ words) ≤ 4 → Stands b (given os m s) rows pending
     → EndsWith b (stand true (waits rows pending) (length os + 1)) words (given (os ++ words) m s)
 trailing_ends b [] os m s rows pending few h =
@@ -113,42 +114,52 @@ ends b (one_operand {before = before} {word = word} {rest = rest} is more) fits 
     (value_walk (rules b) (waits rows pending) (place before) word is
     ∙ operand_moves b false before.operands rows pending word few)
     (ends b more fits (settled_rows (rules b) pending rows) (Some (next before.operands, word ∷ []))
-    (stands_operand b before.operands before.merge before.strict rows pending word few h))
+    (stands_operand b before.operands before.merge before.flags rows pending word few h))
+ends b (in_sets_option {before = before} {rest = rest} absent more) fits rows pending h =
+    let stood : Stands b (given before.operands before.merge (flags_of false before.flags.strict)) rows pending =
+    subst (λ s. Stands b (given before.operands before.merge (flags_of s before.flags.strict)) rows pending) absent h in
+    let after = settled_rows (rules b) pending rows in
+    goes_on b _ _ (codes "--in-sets") rest _
+    (in_sets_turn b rows pending (place before) ∙ react_fits b in_sets_built [] rows pending h.fits
+    (fresh (codes "in-sets") after stood.holds.in_sets))
+    (in_sets_walk b rows pending (place before))
+    (ends b more fits (used in_sets_built [] after) None
+    (stands_in_sets b before.operands before.merge before.flags.strict rows pending stood))
 ends true (strict_option {before = before} {rest = rest} absent more) fits rows pending h =
-    let stood : Stands true (given before.operands before.merge false) rows pending =
-    subst (λ s. Stands true (given before.operands before.merge s) rows pending) absent h in
+    let stood : Stands true (given before.operands before.merge (flags_of before.flags.in_sets false)) rows pending =
+    subst (λ s. Stands true (given before.operands before.merge (flags_of before.flags.in_sets s)) rows pending) absent h in
     goes_on true _ _ (codes "--strict") rest _
     (strict_turn rows pending (place before) ∙ react_fits true strict_built [] rows pending h.fits
     (fresh (codes "strict") (settled_rows (rules true) pending rows) stood.holds.strict))
     (strict_walk rows pending (place before))
     (ends true more fits (used strict_built [] (settled_rows (rules true) pending rows)) None
-    (stands_strict before.operands before.merge rows pending stood))
+    (stands_strict before.operands before.merge before.flags.in_sets rows pending stood))
 ends false (strict_option {before = before} absent more) fits rows pending h =
     absurd (true≢false (sym ((grows more).1 refl) ∙ fits.1 refl))
 ends b (merge_option {before = before} {names = names} {rest = rest} absent is more) fits rows pending h =
-    let stood : Stands b (given before.operands None before.strict) rows pending =
-    subst (λ m. Stands b (given before.operands m before.strict) rows pending) absent h in
+    let stood : Stands b (given before.operands None before.flags) rows pending =
+    subst (λ m. Stands b (given before.operands m before.flags) rows pending) absent h in
     let after = settled_rows (rules b) pending rows in
     goes_on b _ _ (codes "--merge") (names ∷ rest) _
     (merge_turn b rows pending (place before) ∙ ap (λ k. or_else k []) h.fits)
     (merge_walk b rows pending (place before))
     (goes_on b _ _ names rest _ (names_turn b after (place before) names is) (names_walk b after (place before) names is)
     (ends b more fits after (Some (codes "merge", names ∷ []))
-    (stands_merge b before.operands before.strict rows pending names stood)))
+    (stands_merge b before.operands before.flags rows pending names stood)))
 ends b (merge_equals {before = before} {names = names} {rest = rest} absent more) fits rows pending h =
-    let stood : Stands b (given before.operands None before.strict) rows pending =
-    subst (λ m. Stands b (given before.operands m before.strict) rows pending) absent h in
+    let stood : Stands b (given before.operands None before.flags) rows pending =
+    subst (λ m. Stands b (given before.operands m before.flags) rows pending) absent h in
     let after = settled_rows (rules b) pending rows in
     goes_on b _ _ (codes "--merge=" ++ names) rest _
     (joined_turn b rows pending (place before) names ∙ react_fits b merge_built (names ∷ []) rows pending h.fits
     (fresh (codes "merge") after stood.holds.merge))
     (joined_walk b rows pending (place before) names)
     (ends b more fits (used merge_built (names ∷ []) after) None
-    (stands_joined b before.operands before.strict rows pending names stood))
+    (stands_joined b before.operands before.flags rows pending names stood))
 ends b (only_operands {before = before} {operands = operands}) fits rows pending h =
     goes_on b _ _ dashes operands _ (dashes_turn (level b) (waits rows pending) (place before))
     (dashes_walk (rules b) (waits rows pending) (place before))
-    (trailing_ends b operands before.operands before.merge before.strict rows pending fits.0 h)
+    (trailing_ends b operands before.operands before.merge before.flags rows pending fits.0 h)
 
 -- ---- what fits is given
 
@@ -158,7 +169,7 @@ four_or_fewer n few = elim (cases_lt n 4) [
   | inr more ↦ inl (omega (arith, few, more))
 ]
 
-trailing_few : (b : Bool) (words os : List Text) (m : Option Text) (s : Bool) (rows : List Row)
+trailing_few : (b : Bool) (words os : List Text) (m : Option Text) (s : Flags) (rows : List Row)
     (pending : Option (Text × List Text)) → length os ≤ 4 → Stands b (given os m s) rows pending
     → Passes b (stand true (waits rows pending) (length os + 1)) words → length (os ++ words) ≤ 4
 trailing_few b [] os m s rows pending few h p = subst (λ all. length all ≤ 4) (sym (append-nil os)) few
@@ -280,7 +291,8 @@ waiting_fits b os (w ∷ rest) rows pending few texts p = go (settle_fault (rule
 data IsWord (b : Bool) (all : Given) (w : Text) : Type 0 where
   is_operand : IsOperand w → IsWord b all w
   is_dashes : w ≡ dashes → IsWord b all w
-  is_strict : b ≡ true → w ≡ codes "--strict" → all.strict ≡ false → IsWord b all w
+  is_in_sets : w ≡ codes "--in-sets" → all.flags.in_sets ≡ false → IsWord b all w
+  is_strict : b ≡ true → w ≡ codes "--strict" → all.flags.strict ≡ false → IsWord b all w
   is_merge : w ≡ codes "--merge" → IsWord b all w
   is_joined : (names : Text) → w ≡ codes "--merge=" ++ names → all.merge ≡ None → IsWord b all w
 
@@ -299,19 +311,32 @@ no_merge_yet all rows h e = go _ all.merge (sym (ap is_some h.merge) ∙ not_aga
     go f None e = refl
     go f (Some x) e = absurd (true≢false e)
 
+no_flag : (r : Row) (s : Bool) → is_some (if s then Some r else None) ≡ false → s ≡ false
+no_flag r false e = refl
+no_flag r true e = absurd (true≢false e)
+
+no_in_sets_yet : (all : Given) (rows : List Row) → Holds all rows → one_use (has_row (codes "in-sets") rows) ≡ []
+    → all.flags.in_sets ≡ false
+no_in_sets_yet all rows h e =
+    no_flag _ all.flags.in_sets (sym (ap is_some h.in_sets) ∙ not_again (codes "in-sets") rows e)
+
 no_strict_yet : (all : Given) (rows : List Row) → Holds all rows → one_use (has_row (codes "strict") rows) ≡ []
-    → all.strict ≡ false
-no_strict_yet all rows h e = go _ all.strict (sym (ap is_some h.strict) ∙ not_again (codes "strict") rows e)
-  where
-    go : (r : Row) (s : Bool) → is_some (if s then Some r else None) ≡ false → s ≡ false
-    go r false e = refl
-    go r true e = absurd (true≢false e)
+    → all.flags.strict ≡ false
+no_strict_yet all rows h e =
+    no_flag _ all.flags.strict (sym (ap is_some h.strict) ∙ not_again (codes "strict") rows e)
 
 merge_joined_uses : (b : Bool) (v : Text) (rows : List Row) (pending : Option (Text × List Text))
     → long_fault (rules b) false (Some merge_built) (Some v) (waits rows pending) ≡ []
     → one_use (has_row (codes "merge") (settled_rows (rules b) pending rows)) ≡ []
 merge_joined_uses true v rows pending e = none_second (settle_fault (rules true) false (waits rows pending)) _ e
 merge_joined_uses false v rows pending e = none_second (settle_fault (rules false) false (waits rows pending)) _ e
+
+in_sets_uses : (b : Bool) (v : Option Text) (rows : List Row) (pending : Option (Text × List Text))
+    → long_fault (rules b) false (Some in_sets_built) v (waits rows pending) ≡ []
+    → (v ≡ None) × (one_use (has_row (codes "in-sets") (settled_rows (rules b) pending rows)) ≡ [])
+in_sets_uses b (Some v) rows pending e = absurd (some_kind _ _ e)
+in_sets_uses true None rows pending e = (refl, none_second (settle_fault (rules true) false (waits rows pending)) _ e)
+in_sets_uses false None rows pending e = (refl, none_second (settle_fault (rules false) false (waits rows pending)) _ e)
 
 strict_uses : (v : Option Text) (rows : List Row) (pending : Option (Text × List Text))
     → long_fault (rules true) false (Some strict_built) v (waits rows pending) ≡ []
@@ -352,6 +377,12 @@ word b all w rows pending h text e = elim (begins w) [
         by (steps.merge name a) (inr c) = is_joined c.0
             (is ∙ ap (λ t. 45 ∷ 45 ∷ t) (c.2 ∙ ap (λ t. t ++ 61 ∷ c.0) name))
             (no_merge_yet all after h.holds (merge_joined_uses b c.0 rows pending (met _ _ a c.1)))
+        by (steps.in_sets name a) c =
+            let uses = in_sets_uses b _ rows pending (met _ _ a refl) in
+            is_in_sets (elim c [
+              | inl c ↦ is ∙ ap (λ t. 45 ∷ 45 ∷ t) (c.1 ∙ name)
+              | inr c ↦ absurd (some_text c.0 (sym c.1 ∙ uses.0))
+            ]) (no_in_sets_yet all after h.holds uses.1)
         by (steps.strict name takes a) c =
             let uses = strict_uses _ rows pending (subst (λ d. long_fault (rules d) false (Some strict_built)
             (name_and_value (z ∷ zs)).1 (waits rows pending) ≡ []) takes (met _ _ a refl)) in
@@ -370,13 +401,13 @@ Taken b before words = (after : Given) × Gives before words after × Fitting b 
 
 -- the words, where nothing waits for a value, and where `--merge` waits for its names
 abbrev Idle : Bool → List Text → Type 0
-Idle b words = (os : List Text) (m : Option Text) (s : Bool) (rows : List Row) (pending : Option (Text × List Text))
-    → length os ≤ 4 → (b ≡ false → s ≡ false) → Stands b (given os m s) rows pending
+Idle b words = (os : List Text) (m : Option Text) (s : Flags) (rows : List Row) (pending : Option (Text × List Text))
+    → length os ≤ 4 → (b ≡ false → s.strict ≡ false) → Stands b (given os m s) rows pending
     → Passes b (stand false (waits rows pending) (length os + 1)) words → Taken b (given os m s) words
 
 abbrev Naming : Bool → List Text → Type 0
-Naming b words = (os : List Text) (m : Option Text) (s : Bool) (rows : List Row) → length os ≤ 4
-    → (b ≡ false → s ≡ false) → Holds (given os m s) rows → Passes b (unnamed rows (length os + 1)) words
+Naming b words = (os : List Text) (m : Option Text) (s : Flags) (rows : List Row) → length os ≤ 4
+    → (b ≡ false → s.strict ≡ false) → Holds (given os m s) rows → Passes b (unnamed rows (length os + 1)) words
     → Taken b (given os m s) (codes "--merge" ∷ words)
 
 unnamed_waits : (b : Bool) (rows : List Row)
@@ -393,11 +424,11 @@ strict_walks : (b : Bool) → b ≡ true → (rows : List Row) (pending : Option
 strict_walks true takes rows pending p = strict_walk rows pending p
 strict_walks false takes rows pending p = absurd (true≢false (sym takes))
 
-strict_stands : (b : Bool) → b ≡ true → (os : List Text) (m : Option Text) (rows : List Row)
-    (pending : Option (Text × List Text)) → Stands b (given os m false) rows pending
-    → Stands b (given os m true) (used strict_built [] (settled_rows (rules b) pending rows)) None
-strict_stands true takes os m rows pending h = stands_strict os m rows pending h
-strict_stands false takes os m rows pending h = absurd (true≢false (sym takes))
+strict_stands : (b : Bool) → b ≡ true → (os : List Text) (m : Option Text) (i : Bool) (rows : List Row)
+    (pending : Option (Text × List Text)) → Stands b (given os m (flags_of i false)) rows pending
+    → Stands b (given os m (flags_of i true)) (used strict_built [] (settled_rows (rules b) pending rows)) None
+strict_stands true takes os m i rows pending h = stands_strict os m i rows pending h
+strict_stands false takes os m i rows pending h = absurd (true≢false (sym takes))
 
 idle_on : (b : Bool) (w : Text) (rest : List Text) → IsUtf8 w → Idle b rest → Naming b rest → Idle b (w ∷ rest)
 idle_on b w rest text idles names os m s rows pending few takes h p =
@@ -434,9 +465,16 @@ idle_on b w rest text idles names os m s rows pending few takes h p =
         takes,
       ),
     )
+    by (is_in_sets is absent) =
+        let r = idles os m (flags_of true s.strict) (used in_sets_built [] after) None few takes
+        (stands_in_sets b os m s.strict rows pending
+        (subst (λ t. Stands b (given os m (flags_of t s.strict)) rows pending) absent h))
+        (goes (codes "--in-sets") is (in_sets_walk b rows pending (length os + 1))) in
+        (r.0, subst (λ v. Gives (given os m s) (v ∷ rest) r.0) (sym is) (in_sets_option absent r.1), r.2)
     by (is_strict takes_it is absent) =
-        let r = idles os m true (used strict_built [] after) None few (λ e. absurd (true≢false (sym takes_it ∙ e)))
-        (strict_stands b takes_it os m rows pending (subst (λ t. Stands b (given os m t) rows pending) absent h))
+        let r = idles os m (flags_of s.in_sets true) (used strict_built [] after) None few (λ e. absurd (true≢false (sym takes_it ∙ e)))
+        (strict_stands b takes_it os m s.in_sets rows pending
+        (subst (λ t. Stands b (given os m (flags_of s.in_sets t)) rows pending) absent h))
         (goes (codes "--strict") is (strict_walks b takes_it rows pending (length os + 1))) in
         (r.0, subst (λ v. Gives (given os m s) (v ∷ rest) r.0) (sym is) (strict_option absent r.1), r.2)
     by (is_merge is) = subst (λ v. Taken b (given os m s) (v ∷ rest)) (sym is)
@@ -490,5 +528,5 @@ sound b (w ∷ rest) texts =
     (idle_on b w rest texts.0 r.0 r.1, naming_on b w rest texts.0 texts.1 r.0)
 
 pub gives : (b : Bool) (words : List Text) → AreTexts words → Passes b (stand false (waits [] None) 1) words
-    → Taken b (given [] None false) words
-gives b words texts p = (sound b words texts).0 [] None false [] None (omega arith) (λ e. refl) (stands_nothing b) p
+    → Taken b (given [] None (flags_of false false)) words
+gives b words texts p = (sound b words texts).0 [] None (flags_of false false) [] None (omega arith) (λ e. refl) (stands_nothing b) p

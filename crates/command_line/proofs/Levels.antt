@@ -11,8 +11,8 @@ use Rattle.clap.specs.declared.builder.action.ArgAction.TheVariants.{Set}
 use Rattle.clap.specs.declared.builder.value_parser.Reading.TheVariants as reading
 use Rattle.clap.specs.declared.error.kind.ErrorKind.TheVariants as kind
 use Rattle.clap.specs.declared.parser.matches.ValueSource.TheVariants.{CommandLine}
-use Rattle.command_line.specs.Clap.{merge_rule, shrink_app, stepmin_app, strict_rule, verify_app}
-use Rattle.command_line.specs.Commands.{Given}
+use Rattle.command_line.specs.Clap.{in_sets_rule, merge_rule, shrink_app, stepmin_app, strict_rule, verify_app}
+use Rattle.command_line.specs.Commands.{Flags, Given, flags_of}
 use Rattle.command_line.proofs.Rows.{found, found_kept, found_new, given_row, has_found, used_fresh}
 use Rattle.command_line.proofs.Walking.{waits}
 
@@ -27,6 +27,9 @@ rules b = (level b).rules
 abbrev pub merge_built : Rule
 merge_built = with_index 5 (filled merge_rule)
 
+abbrev pub in_sets_built : Rule
+in_sets_built = with_index 5 (filled in_sets_rule)
+
 abbrev pub strict_built : Rule
 strict_built = with_index 5 (filled strict_rule)
 
@@ -34,8 +37,8 @@ strict_built = with_index 5 (filled strict_rule)
 abbrev pub operand_rule : Text → ℕ → Rule
 operand_rule id place = with_index place (filled (record (new_rule id) { required = true; action = Some Set }))
 
-abbrev pub given : List Text → Option Text → Bool → Given
-given operands merge strict = record { operands = operands; merge = merge; strict = strict }
+abbrev pub given : List Text → Option Text → Flags → Given
+given operands merge flags = record { operands = operands; merge = merge; flags = flags }
 
 -- the name of the operand behind these
 abbrev pub next : List Text → Text
@@ -56,13 +59,23 @@ pub record Holds (all : Given) (rows : List Row) : Type 0 where
   pub output : found (codes "OUT") rows ≡ option_map (given_row (codes "OUT")) (slice_get all.operands 2)
   pub certificate : found (codes "CERT") rows ≡ option_map (given_row (codes "CERT")) (slice_get all.operands 3)
   pub merge : found (codes "merge") rows ≡ option_map (given_row (codes "merge")) all.merge
-  pub strict : found (codes "strict") rows ≡ (if all.strict then Some (given_row (codes "strict") (codes "true"))
+  pub in_sets : found (codes "in-sets") rows ≡ (if all.flags.in_sets then Some (given_row (codes "in-sets") (codes "true"))
+      else None)
+  pub strict : found (codes "strict") rows ≡ (if all.flags.strict then Some (given_row (codes "strict") (codes "true"))
       else None)
 
-pub holds_nothing : Holds (given [] None false) []
-holds_nothing = record { schema = refl; file = refl; output = refl; certificate = refl; merge = refl; strict = refl }
+pub holds_nothing : Holds (given [] None (flags_of false false)) []
+holds_nothing = record {
+  schema = refl;
+  file = refl;
+  output = refl;
+  certificate = refl;
+  merge = refl;
+  in_sets = refl;
+  strict = refl;
+}
 
-none_next : (os : List Text) (m : Option Text) (s : Bool) (rows : List Row) → length os < 4 → Holds (given os m s) rows
+none_next : (os : List Text) (m : Option Text) (s : Flags) (rows : List Row) → length os < 4 → Holds (given os m s) rows
     → found (next os) rows ≡ None
 none_next [] m s rows few h = h.schema
 none_next (a ∷ []) m s rows few h = h.file
@@ -70,7 +83,7 @@ none_next (a ∷ b ∷ []) m s rows few h = h.output
 none_next (a ∷ b ∷ c ∷ []) m s rows few h = h.certificate
 none_next (a ∷ b ∷ c ∷ d ∷ rest) m s rows few h = absurd (omega (arith, few))
 
-holds_operand : (os : List Text) (m : Option Text) (s : Bool) (rows : List Row) (w : Text) → length os < 4
+holds_operand : (os : List Text) (m : Option Text) (s : Flags) (rows : List Row) (w : Text) → length os < 4
     → Holds (given os m s) rows → Holds (given (os ++ w ∷ []) m s) (rows ++ given_row (next os) w ∷ [])
 holds_operand [] m s rows w few h = record {
   schema = found_new _ rows _ refl h.schema;
@@ -78,6 +91,7 @@ holds_operand [] m s rows w few h = record {
   output = found_kept _ rows _ refl ∙ h.output;
   certificate = found_kept _ rows _ refl ∙ h.certificate;
   merge = found_kept _ rows _ refl ∙ h.merge;
+  in_sets = found_kept _ rows _ refl ∙ h.in_sets;
   strict = found_kept _ rows _ refl ∙ h.strict;
 }
 holds_operand (a ∷ []) m s rows w few h = record {
@@ -86,6 +100,7 @@ holds_operand (a ∷ []) m s rows w few h = record {
   output = found_kept _ rows _ refl ∙ h.output;
   certificate = found_kept _ rows _ refl ∙ h.certificate;
   merge = found_kept _ rows _ refl ∙ h.merge;
+  in_sets = found_kept _ rows _ refl ∙ h.in_sets;
   strict = found_kept _ rows _ refl ∙ h.strict;
 }
 holds_operand (a ∷ b ∷ []) m s rows w few h = record {
@@ -94,6 +109,7 @@ holds_operand (a ∷ b ∷ []) m s rows w few h = record {
   output = found_new _ rows _ refl h.output;
   certificate = found_kept _ rows _ refl ∙ h.certificate;
   merge = found_kept _ rows _ refl ∙ h.merge;
+  in_sets = found_kept _ rows _ refl ∙ h.in_sets;
   strict = found_kept _ rows _ refl ∙ h.strict;
 }
 holds_operand (a ∷ b ∷ c ∷ []) m s rows w few h = record {
@@ -102,11 +118,12 @@ holds_operand (a ∷ b ∷ c ∷ []) m s rows w few h = record {
   output = found_kept _ rows _ refl ∙ h.output;
   certificate = found_new _ rows _ refl h.certificate;
   merge = found_kept _ rows _ refl ∙ h.merge;
+  in_sets = found_kept _ rows _ refl ∙ h.in_sets;
   strict = found_kept _ rows _ refl ∙ h.strict;
 }
 holds_operand (a ∷ b ∷ c ∷ d ∷ rest) m s rows w few h = absurd (omega (arith, few))
 
-holds_merge : (os : List Text) (s : Bool) (rows : List Row) (names : Text) → Holds (given os None s) rows
+holds_merge : (os : List Text) (s : Flags) (rows : List Row) (names : Text) → Holds (given os None s) rows
     → Holds (given os (Some names) s) (rows ++ given_row (codes "merge") names ∷ [])
 holds_merge os s rows names h = record {
   schema = found_kept _ rows _ refl ∙ h.schema;
@@ -114,17 +131,31 @@ holds_merge os s rows names h = record {
   output = found_kept _ rows _ refl ∙ h.output;
   certificate = found_kept _ rows _ refl ∙ h.certificate;
   merge = found_new _ rows _ refl h.merge;
+  in_sets = found_kept _ rows _ refl ∙ h.in_sets;
   strict = found_kept _ rows _ refl ∙ h.strict;
 }
 
-holds_strict : (os : List Text) (m : Option Text) (rows : List Row) → Holds (given os m false) rows
-    → Holds (given os m true) (rows ++ given_row (codes "strict") (codes "true") ∷ [])
-holds_strict os m rows h = record {
+holds_in_sets : (os : List Text) (m : Option Text) (t : Bool) (rows : List Row) → Holds (given os m (flags_of false t)) rows
+    → Holds (given os m (flags_of true t)) (rows ++ given_row (codes "in-sets") (codes "true") ∷ [])
+holds_in_sets os m t rows h = record {
   schema = found_kept _ rows _ refl ∙ h.schema;
   file = found_kept _ rows _ refl ∙ h.file;
   output = found_kept _ rows _ refl ∙ h.output;
   certificate = found_kept _ rows _ refl ∙ h.certificate;
   merge = found_kept _ rows _ refl ∙ h.merge;
+  in_sets = found_new _ rows _ refl h.in_sets;
+  strict = found_kept _ rows _ refl ∙ h.strict;
+}
+
+holds_strict : (os : List Text) (m : Option Text) (i : Bool) (rows : List Row) → Holds (given os m (flags_of i false)) rows
+    → Holds (given os m (flags_of i true)) (rows ++ given_row (codes "strict") (codes "true") ∷ [])
+holds_strict os m i rows h = record {
+  schema = found_kept _ rows _ refl ∙ h.schema;
+  file = found_kept _ rows _ refl ∙ h.file;
+  output = found_kept _ rows _ refl ∙ h.output;
+  certificate = found_kept _ rows _ refl ∙ h.certificate;
+  merge = found_kept _ rows _ refl ∙ h.merge;
+  in_sets = found_kept _ rows _ refl ∙ h.in_sets;
   strict = found_new _ rows _ refl h.strict;
 }
 
@@ -163,10 +194,10 @@ pub record Stands (b : Bool) (all : Given) (rows : List Row) (pending : Option (
   pub fits : settle_fault (rules b) false (waits rows pending) ≡ []
   pub holds : Holds all (settled_rows (rules b) pending rows)
 
-pub stands_nothing : (b : Bool) → Stands b (given [] None false) [] None
+pub stands_nothing : (b : Bool) → Stands b (given [] None (flags_of false false)) [] None
 stands_nothing b = record { fits = refl; holds = holds_nothing }
 
-pub stands_operand : (b : Bool) (os : List Text) (m : Option Text) (s : Bool) (rows : List Row)
+pub stands_operand : (b : Bool) (os : List Text) (m : Option Text) (s : Flags) (rows : List Row)
     (pending : Option (Text × List Text)) (w : Text) → length os < 4 → Stands b (given os m s) rows pending
     → Stands b (given (os ++ w ∷ []) m s) (settled_rows (rules b) pending rows) (Some (next os, w ∷ []))
 stands_operand b os m s rows pending w few h =
@@ -178,7 +209,7 @@ stands_operand b os m s rows pending w few h =
           ∙ used_fresh (next os) w before none)) (holds_operand os m s before w few h.holds);
     }
 
-pub stands_merge : (b : Bool) (os : List Text) (s : Bool) (rows : List Row) (pending : Option (Text × List Text))
+pub stands_merge : (b : Bool) (os : List Text) (s : Flags) (rows : List Row) (pending : Option (Text × List Text))
     (names : Text) → Stands b (given os None s) rows pending
     → Stands b (given os (Some names) s) (settled_rows (rules b) pending rows) (Some (codes "merge", names ∷ []))
 stands_merge b os s rows pending names h =
@@ -189,7 +220,7 @@ stands_merge b os s rows pending names h =
           ∙ used_fresh (codes "merge") names before h.holds.merge)) (holds_merge os s before names h.holds);
     }
 
-pub stands_joined : (b : Bool) (os : List Text) (s : Bool) (rows : List Row) (pending : Option (Text × List Text))
+pub stands_joined : (b : Bool) (os : List Text) (s : Flags) (rows : List Row) (pending : Option (Text × List Text))
     (names : Text) → Stands b (given os None s) rows pending
     → Stands b (given os (Some names) s) (used merge_built (names ∷ []) (settled_rows (rules b) pending rows)) None
 stands_joined b os s rows pending names h =
@@ -200,15 +231,28 @@ stands_joined b os s rows pending names h =
           (holds_merge os s before names h.holds);
     }
 
-pub stands_strict : (os : List Text) (m : Option Text) (rows : List Row) (pending : Option (Text × List Text))
-    → Stands true (given os m false) rows pending
-    → Stands true (given os m true) (used strict_built [] (settled_rows (rules true) pending rows)) None
-stands_strict os m rows pending h =
+pub stands_in_sets : (b : Bool) (os : List Text) (m : Option Text) (t : Bool) (rows : List Row)
+    (pending : Option (Text × List Text)) → Stands b (given os m (flags_of false t)) rows pending
+    → Stands b (given os m (flags_of true t)) (used in_sets_built [] (settled_rows (rules b) pending rows)) None
+stands_in_sets b os m t rows pending h =
+    let before = settled_rows (rules b) pending rows in
+    record {
+      fits = refl;
+      holds = subst (Holds (given os m (flags_of true t)))
+          (sym (used_fresh (codes "in-sets") (codes "true") before h.holds.in_sets))
+          (holds_in_sets os m t before h.holds);
+    }
+
+pub stands_strict : (os : List Text) (m : Option Text) (i : Bool) (rows : List Row) (pending : Option (Text × List Text))
+    → Stands true (given os m (flags_of i false)) rows pending
+    → Stands true (given os m (flags_of i true)) (used strict_built [] (settled_rows (rules true) pending rows)) None
+stands_strict os m i rows pending h =
     let before = settled_rows (rules true) pending rows in
     record {
       fits = refl;
-      holds = subst (Holds (given os m true)) (sym (used_fresh (codes "strict") (codes "true") before h.holds.strict))
-          (holds_strict os m before h.holds);
+      holds = subst (Holds (given os m (flags_of i true)))
+          (sym (used_fresh (codes "strict") (codes "true") before h.holds.strict))
+          (holds_strict os m i before h.holds);
     }
 
 -- ---- operands

@@ -6,7 +6,7 @@ use Rattle.clap.specs.Walk.{Row, Text}
 use Rattle.clap.specs.Simple.{subcommand_rows_of}
 use Rattle.clap.specs.declared.parser.matches.ArgMatches.{ArgMatches}
 use Rattle.command_line.specs.Clap.{HasValues, Values, file_in, files_in, name_in, values_in, values_of}
-use Rattle.command_line.specs.Commands.{AreOfCommand, AsksCheck, AsksClashing, AsksPlain, Given, clash, four, AsksNothing, AsksShrink, AsksVerify}
+use Rattle.command_line.specs.Commands.{AreOfCommand, AsksCheck, AsksClashing, AsksPlain, Flags, Given, clash, flags_of, four, AsksNothing, AsksShrink, AsksVerify}
 use Rattle.command_line.specs.Requests.{AskFor, CallFor, Settles}
 use Rattle.command_line.specs.declared.command_words.Refusal.{Refusal}
 use Rattle.command_line.specs.declared.command_words.Refusal.TheVariants.{Shown, Usage, Memory}
@@ -22,16 +22,16 @@ use Rattle.command_line.proofs.Walking.{AreTexts}
 same : {X : Type 0} (x y : X) → Some x ≡ Some y → x ≡ y
 same x y e = ap (λ o. unwrap_or o x) e
 
-pub same_given : (os : List Text) (m : Option Text) (t : Bool) (s f o c : Text) (n : Option Text) → length os ≡ 4
-    → Some s ≡ slice_get os 0 → Some f ≡ slice_get os 1 → Some o ≡ slice_get os 2 → Some c ≡ slice_get os 3
-    → n ≡ m → four s f o c n t ≡ given os m t
-same_given [] m t s f o c n are _ _ _ _ _ = absurd (omega (arith, are))
-same_given (x ∷ []) m t s f o c n are _ _ _ _ _ = absurd (omega (arith, are))
-same_given (x ∷ y ∷ []) m t s f o c n are _ _ _ _ _ = absurd (omega (arith, are))
-same_given (x ∷ y ∷ z ∷ []) m t s f o c n are _ _ _ _ _ = absurd (omega (arith, are))
-same_given (x ∷ y ∷ z ∷ w ∷ []) m t s f o c n are p q r u v = λ i.
-    given (same s x p i ∷ same f y q i ∷ same o z r i ∷ same c w u i ∷ []) (v i) t
-same_given (x ∷ y ∷ z ∷ w ∷ v ∷ rest) m t s f o c n are _ _ _ _ _ = absurd (omega (arith, are))
+pub same_given : (os : List Text) (m : Option Text) (t : Flags) (s f o c : Text) (n : Option Text) (e : Bool)
+    → length os ≡ 4 → Some s ≡ slice_get os 0 → Some f ≡ slice_get os 1 → Some o ≡ slice_get os 2
+    → Some c ≡ slice_get os 3 → n ≡ m → e ≡ t.in_sets → four s f o c n (flags_of e t.strict) ≡ given os m t
+same_given [] m t s f o c n e are _ _ _ _ _ _ = absurd (omega (arith, are))
+same_given (x ∷ []) m t s f o c n e are _ _ _ _ _ _ = absurd (omega (arith, are))
+same_given (x ∷ y ∷ []) m t s f o c n e are _ _ _ _ _ _ = absurd (omega (arith, are))
+same_given (x ∷ y ∷ z ∷ []) m t s f o c n e are _ _ _ _ _ _ = absurd (omega (arith, are))
+same_given (x ∷ y ∷ z ∷ w ∷ []) m t s f o c n e are p q r u v d = λ i.
+    given (same s x p i ∷ same f y q i ∷ same o z r i ∷ same c w u i ∷ []) (v i) (flags_of (d i) t.strict)
+same_given (x ∷ y ∷ z ∷ w ∷ v ∷ rest) m t s f o c n e are _ _ _ _ _ _ = absurd (omega (arith, are))
 
 same_flag : (b s t : Bool) → (b ≡ false → s ≡ false) → (b ≡ false → t ≡ false)
     → (if b then Some (if s then codes "true" else codes "false") else None)
@@ -44,18 +44,20 @@ same_flag false s t p q e = p refl ∙ sym (q refl)
 
 -- words give the same at all times
 pub given_once : (b : Bool) (words : List Text) (schema file output certificate : Text) (merge : Option Text)
-    (strict : Bool) (all : Given) → AreOfCommand words (command b) (four schema file output certificate merge strict)
-    → Fitting b (four schema file output certificate merge strict) → AreOfCommand words (command b) all → Fitting b all
-    → length all.operands ≡ 4 → four schema file output certificate merge strict ≡ all
-given_once b words schema file output certificate merge strict all one fits other suits are =
-    let both : values_of b (four schema file output certificate merge strict) ≡ values_of b all =
-    values_same (sym (merging_found words b (four schema file output certificate merge strict) one fits refl)
+    (flags : Flags) (all : Given) → AreOfCommand words (command b) (four schema file output certificate merge flags)
+    → Fitting b (four schema file output certificate merge flags) → AreOfCommand words (command b) all → Fitting b all
+    → length all.operands ≡ 4 → four schema file output certificate merge flags ≡ all
+given_once b words schema file output certificate merge flags all one fits other suits are =
+    let both : values_of b (four schema file output certificate merge flags) ≡ values_of b all =
+    values_same (sym (merging_found words b (four schema file output certificate merge flags) one fits refl)
     ∙ merging_found words b all other suits are) in
-    ap (λ t. four schema file output certificate merge t) (same_flag b strict all.strict fits.1 suits.1
-    (ap (λ (v : Values). v.5) both))
-    ∙ same_given all.operands all.merge all.strict schema file output certificate merge are
+    ap (λ t. four schema file output certificate merge (flags_of flags.in_sets t))
+    (same_flag b flags.strict all.flags.strict fits.1 suits.1 (ap (λ (v : Values). v.6) both))
+    ∙ same_given all.operands all.merge all.flags schema file output certificate merge flags.in_sets are
     (ap (λ (v : Values). v.0) both) (ap (λ (v : Values). v.1) both) (ap (λ (v : Values). v.2) both)
     (ap (λ (v : Values). v.3) both) (ap (λ (v : Values). v.4) both)
+    (same_flag true flags.in_sets all.flags.in_sets (λ e. absurd (true≢false e)) (λ e. absurd (true≢false e))
+    (ap (λ (v : Values). v.5) both))
   where
     values_same : {v w : Values}
         → ◌≡◌ {A = Option (Text × Values)} (Some (command b, v)) (Some (command b, w)) → v ≡ w
@@ -67,7 +69,7 @@ clash_of all =
     clash (unwrap_or (slice_get all.operands 0) []) (unwrap_or (slice_get all.operands 1) [])
     (unwrap_or (slice_get all.operands 2) []) (unwrap_or (slice_get all.operands 3) []) all.merge
 
-pub same_clash : (s f o c : Text) (m : Option Text) (t : Bool) (s' f' o' c' : Text) (m' : Option Text) (t' : Bool)
+pub same_clash : (s f o c : Text) (m : Option Text) (t : Flags) (s' f' o' c' : Text) (m' : Option Text) (t' : Flags)
     → four s f o c m t ≡ four s' f' o' c' m' t' → clash s f o c m ≡ clash s' f' o' c' m'
 same_clash s f o c m t s' f' o' c' m' t' e = ap clash_of e
 
@@ -184,7 +186,7 @@ settled_granted said request (Err refusal) s none = absurd (true≢false (ap is_
 
 -- what is said of the words is said of all that they can be taken for
 pub said_once : (b : Bool) {words : List Text} {met : ArgMatches} (k : Merges b words met) (s f o c : Text)
-    (m : Option Text) (t : Bool) → four s f o c m t ≡ k.all → (s' f' o' c' : Text) (m' : Option Text) (t' : Bool)
+    (m : Option Text) (t : Flags) → four s f o c m t ≡ k.all → (s' f' o' c' : Text) (m' : Option Text) (t' : Flags)
     → AreOfCommand words (command b) (four s' f' o' c' m' t') → Fitting b (four s' f' o' c' m' t')
     → clash s f o c m ≡ clash s' f' o' c' m'
 said_once b {words} k s f o c m t e s' f' o' c' m' t' of fits = same_clash s f o c m t s' f' o' c' m' t'
@@ -195,36 +197,37 @@ said_once b {words} k s f o c m t e s' f' o' c' m' t' of fits = same_clash s f o
 pub data AsksAny (words : List Text) : Type 0 where
   asks_plain : (path : Text) → AsksPlain words path → AsksAny words
   asks_check : (schema file : Text) → AsksCheck words schema file → AsksAny words
-  asks_shrink : (p q o c : Text) (m : Option Text) (s : Bool) → AsksShrink words p q o c m s → AsksAny words
-  asks_verify : (p q o c : Text) (m : Option Text) → AsksVerify words p q o c m → AsksAny words
+  asks_shrink : (p q o c : Text) (m : Option Text) (s : Flags) → AsksShrink words p q o c m s → AsksAny words
+  asks_verify : (p q o c : Text) (m : Option Text) (i : Bool) → AsksVerify words p q o c m i → AsksAny words
 
 some_said : (x : Text) → Some x ≡ None → ⊥
 some_said x e = true≢false (ap is_some e)
 
-said_or_not : (b : Bool) (words : List Text) (p q o c : Text) (m : Option Text) (s : Bool)
+said_or_not : (b : Bool) (words : List Text) (p q o c : Text) (m : Option Text) (s : Flags)
     → AreOfCommand words (command b) (four p q o c m s) → Fitting b (four p q o c m s) → (said : Option Text)
     → clash p q o c m ≡ said → AsksAny words ⊎ AsksNothing words
 said_or_not true words p q o c m s of fits None is = inl (asks_shrink p q o c m s (of, is))
-said_or_not false words p q o c m s of fits None is = inl (asks_verify p q o c m
-    (subst (λ t. AreOfCommand words (codes "verify") (four p q o c m t)) (fits.1 refl) of, is))
+said_or_not false words p q o c m s of fits None is = inl (asks_verify p q o c m s.in_sets
+    (subst (λ t. AreOfCommand words (codes "verify") (four p q o c m (flags_of s.in_sets t))) (fits.1 refl) of, is))
 said_or_not true words p q o c m s of fits (Some said) is = inr (
   (λ path asks. not_plain true words path (four p q o c m s) asks of),
   (λ schema file asks. not_check true words schema file (four p q o c m s) asks of),
   (λ p' q' o' c' m' t asks. some_said said (sym is ∙ sym (same_clash p' q' o' c' m' t p q o c m s
       (given_once true words p' q' o' c' m' t (four p q o c m s) asks.0
       (four_fit true p' q' o' c' m' t (λ e. absurd (true≢false e))) of fits refl)) ∙ asks.1)),
-  (λ p' q' o' c' m' asks. not_both_merge words (four p q o c m s) (four p' q' o' c' m' false) of asks.0),
+  (λ p' q' o' c' m' i asks.
+      not_both_merge words (four p q o c m s) (four p' q' o' c' m' (flags_of i false)) of asks.0),
 )
 said_or_not false words p q o c m s of fits (Some said) is = inr (
   (λ path asks. not_plain false words path (four p q o c m s) asks of),
   (λ schema file asks. not_check false words schema file (four p q o c m s) asks of),
   (λ p' q' o' c' m' t asks. not_both_merge words (four p' q' o' c' m' t) (four p q o c m s) asks.0 of),
-  (λ p' q' o' c' m' asks. some_said said (sym is ∙ sym (same_clash p' q' o' c' m' false p q o c m s
-      (given_once false words p' q' o' c' m' false (four p q o c m s) asks.0
-      (four_fit false p' q' o' c' m' false (λ e. refl)) of fits refl)) ∙ asks.1)),
+  (λ p' q' o' c' m' i asks. some_said said (sym is ∙ sym (same_clash p' q' o' c' m' (flags_of i false) p q o c m s
+      (given_once false words p' q' o' c' m' (flags_of i false) (four p q o c m s) asks.0
+      (four_fit false p' q' o' c' m' (flags_of i false) (λ e. refl)) of fits refl)) ∙ asks.1)),
 )
 
-merging_asks : (b : Bool) (words os : List Text) (m : Option Text) (s : Bool)
+merging_asks : (b : Bool) (words os : List Text) (m : Option Text) (s : Flags)
     → AreOfCommand words (command b) (given os m s) → Fitting b (given os m s) → length os ≡ 4
     → AsksAny words ⊎ AsksNothing words
 merging_asks b words [] m s of fits are = absurd (omega (arith, are))
@@ -243,4 +246,4 @@ any_or_nothing words texts = elim (asks_or_not words texts) [
     by : AreAny words → AsksAny words ⊎ AsksNothing words
     by (any_plain path asks) = inl (asks_plain path asks)
     by (any_check schema file asks) = inl (asks_check schema file asks)
-    by (any_merging b all of fits are) = merging_asks b words all.operands all.merge all.strict of fits are
+    by (any_merging b all of fits are) = merging_asks b words all.operands all.merge all.flags of fits are

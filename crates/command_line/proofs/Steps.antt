@@ -11,7 +11,7 @@ use Rattle.clap.specs.Walk.{Held, Row, Rule, Step, Text, Walk, after_step, arg_b
 use Rattle.clap.specs.Simple.{Shape, filled, help_rule, with_index}
 use Rattle.clap.specs.Faults.{react_fault, settle_fault, step_fault, turn_fault, word_fault}
 use Rattle.command_line.specs.Commands.{IsOperand, dashes}
-use Rattle.command_line.proofs.Levels.{level, merge_built, rules, stand, strict_built}
+use Rattle.command_line.proofs.Levels.{in_sets_built, level, merge_built, rules, stand, strict_built}
 use Rattle.command_line.proofs.Walking.{AsksIf, AsksShort, help_asks, no_option, waits}
 
 -- ---- operands
@@ -62,6 +62,19 @@ pub strict_walk : (rows : List Row) (pending : Option (Text × List Text)) (p : 
     ≡ stand false (waits (used strict_built [] (settled_rows (rules true) pending rows)) None) p
 unfolding walked
 strict_walk rows pending p = refl
+
+pub in_sets_turn : (b : Bool) (rows : List Row) (pending : Option (Text × List Text)) (p : ℕ)
+    → turn_fault (level b) [] (stand false (waits rows pending) p) (codes "--in-sets")
+    ≡ or_else (react_fault (rules b) false in_sets_built [] (waits rows pending)) []
+in_sets_turn true rows pending p = refl
+in_sets_turn false rows pending p = refl
+
+pub in_sets_walk : (b : Bool) (rows : List Row) (pending : Option (Text × List Text)) (p : ℕ)
+    → walked (rules b) [] (stand false (waits rows pending) p) (codes "--in-sets")
+    ≡ stand false (waits (used in_sets_built [] (settled_rows (rules b) pending rows)) None) p
+unfolding walked
+in_sets_walk true rows pending p = refl
+in_sets_walk false rows pending p = refl
 
 pub joined_turn : (b : Bool) (rows : List Row) (pending : Option (Text × List Text)) (p : ℕ) (names : Text)
     → turn_fault (level b) [] (stand false (waits rows pending) p) (codes "--merge=" ++ names)
@@ -142,22 +155,26 @@ spelt text = elim (parts text) [
 -- the options of a level
 pub data IsNamed (b : Bool) (name : Text) : Type 0 where
   merge : name ≡ codes "merge" → arg_by_long (rules b) name ≡ Some merge_built → IsNamed b name
+  in_sets : name ≡ codes "in-sets" → arg_by_long (rules b) name ≡ Some in_sets_built → IsNamed b name
   strict : name ≡ codes "strict" → b ≡ true → arg_by_long (rules b) name ≡ Some strict_built → IsNamed b name
   other : AsksIf (arg_by_long (rules b) name) → IsNamed b name
 
 pub named : (b : Bool) (name : Text) → IsNamed b name
-named b name = by b (bytes_eq (codes "merge") name) (bytes_eq (codes "strict") name) (bytes_eq (codes "help") name) refl
-    refl refl
+named b name = by b (bytes_eq (codes "merge") name) (bytes_eq (codes "in-sets") name) (bytes_eq (codes "strict") name)
+    (bytes_eq (codes "help") name) refl refl refl refl
   where
-    by : (b m s h : Bool) → bytes_eq (codes "merge") name ≡ m → bytes_eq (codes "strict") name ≡ s
-        → bytes_eq (codes "help") name ≡ h → IsNamed b name
-    by true true s h is _ _ = merge (sym ((bytes_eq-Decides (codes "merge") name).0 is)) (rw is refl)
-    by false true s h is _ _ = merge (sym ((bytes_eq-Decides (codes "merge") name).0 is)) (rw is refl)
-    by true false true h m is _ = strict (sym ((bytes_eq-Decides (codes "strict") name).0 is)) refl (rw (m, is) refl)
-    by true false false true m s is = other (rw (m, s, is) help_asks)
-    by true false false false m s h = other (rw (m, s, h) tt)
-    by false false s true m _ is = other (rw (m, is) help_asks)
-    by false false s false m _ h = other (rw (m, h) tt)
+    by : (b m n s h : Bool) → bytes_eq (codes "merge") name ≡ m → bytes_eq (codes "in-sets") name ≡ n
+        → bytes_eq (codes "strict") name ≡ s → bytes_eq (codes "help") name ≡ h → IsNamed b name
+    by true true n s h is _ _ _ = merge (sym ((bytes_eq-Decides (codes "merge") name).0 is)) (rw is refl)
+    by false true n s h is _ _ _ = merge (sym ((bytes_eq-Decides (codes "merge") name).0 is)) (rw is refl)
+    by true false true s h m is _ _ = in_sets (sym ((bytes_eq-Decides (codes "in-sets") name).0 is)) (rw (m, is) refl)
+    by false false true s h m is _ _ = in_sets (sym ((bytes_eq-Decides (codes "in-sets") name).0 is)) (rw (m, is) refl)
+    by true false false true h m n is _ =
+        strict (sym ((bytes_eq-Decides (codes "strict") name).0 is)) refl (rw (m, n, is) refl)
+    by true false false false true m n s is = other (rw (m, n, s, is) help_asks)
+    by true false false false false m n s h = other (rw (m, n, s, h) tt)
+    by false false false s true m n _ is = other (rw (m, n, is) help_asks)
+    by false false false s false m n _ h = other (rw (m, n, h) tt)
 
 -- the one short flag asks for help
 pub short_asks : (b : Bool) → AsksShort (rules b)

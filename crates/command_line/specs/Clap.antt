@@ -37,10 +37,18 @@ merge_rule = record (new_rule (codes "merge")) { long = Some (codes "merge"); va
 abbrev pub strict_rule : Rule
 strict_rule = record (new_rule (codes "strict")) { long = Some (codes "strict"); action = Some SetTrue }
 
+-- the option `--in-sets`
+abbrev pub in_sets_rule : Rule
+in_sets_rule = record (new_rule (codes "in-sets")) { long = Some (codes "in-sets"); action = Some SetTrue }
+
 -- a command with SCHEMA, FILE, OUT, CERT and `--merge`
-abbrev pub merging_app : Text → App
-merging_app name = with_rule (with_rule (with_rule (with_rule (with_rule (new_app name) schema_rule) file_rule)
+abbrev pub naming_app : Text → App
+naming_app name = with_rule (with_rule (with_rule (with_rule (with_rule (new_app name) schema_rule) file_rule)
     output_rule) certificate_rule) merge_rule
+
+-- a command with SCHEMA, FILE, OUT, CERT, `--merge` and `--in-sets`
+abbrev pub merging_app : Text → App
+merging_app name = with_rule (naming_app name) in_sets_rule
 
 -- the command `shrink`, which has `--strict` too
 abbrev pub shrink_app : App
@@ -76,9 +84,9 @@ HasFiles met schema file = files_in met ≡ Some (codes "check", Some schema, So
 abbrev pub name_in : Option (Text × List Row) → Option Text
 name_in = option_map (λ p. p.0)
 
--- SCHEMA, FILE, OUT, CERT, the NAMES of `--merge`, and the text that represents `--strict`
+-- SCHEMA, FILE, OUT, CERT, the NAMES of `--merge`, and the texts that represent `--in-sets` and `--strict`
 abbrev pub Values : Type 0
-Values = Option Text × Option Text × Option Text × Option Text × Option Text × Option Text
+Values = Option Text × Option Text × Option Text × Option Text × Option Text × Option Text × Option Text
 
 abbrev pub values_in : List Row → Values
 values_in rows = (
@@ -87,6 +95,7 @@ values_in rows = (
   first_of (codes "OUT") rows,
   first_of (codes "CERT") rows,
   first_of (codes "merge") rows,
+  one_of (codes "in-sets") rows,
   one_of (codes "strict") rows,
 )
 
@@ -102,5 +111,6 @@ values_of takes_strict given = (
   slice_get given.operands 2,
   slice_get given.operands 3,
   given.merge,
-  if takes_strict then Some (if given.strict then codes "true" else codes "false") else None,
+  Some (if given.flags.in_sets then codes "true" else codes "false"),
+  if takes_strict then Some (if given.flags.strict then codes "true" else codes "false") else None,
 )

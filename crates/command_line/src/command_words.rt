@@ -32,7 +32,7 @@ ghost use Rattle.command_line.specs.Clap.{
   schema_rule,
   stepmin_app,
 };
-ghost use Rattle.command_line.specs.Commands.{AsksCheck, AsksPlain, AsksShrink, AsksVerify, texts};
+ghost use Rattle.command_line.specs.Commands.{AsksCheck, AsksPlain, AsksShrink, AsksVerify, Flags, texts};
 ghost use Rattle.command_line.specs.steps.AskedMerges.{text_of};
 ghost use Rattle.command_line.specs.Requests.{
   AskFor,
@@ -57,13 +57,21 @@ const VERSION: &str = "0.1.0";
 
 // The meaning of each exit status, at the end of the help text.
 const STATUSES: &str = "Exit status:\n  \
-    0  all is done\n  \
-    1  a file breaks its schema, or --strict refuses the schema\n  \
-    2  a text can't be read, or a chosen name is no entity\n  \
-    3  the words of the command line are wrong\n  \
-    4  a device fails\n  \
-    5  memory runs out\n  \
-    6  the certificate is refused";
+    0  success\n  \
+    1  the file breaks its schema, or --strict refuses the schema\n  \
+    2  a text isn't a STEP file, schema or certificate, or the schema lacks a name in NAMES\n  \
+    3  the arguments are wrong\n  \
+    4  a file or an output can't be read or written\n  \
+    5  out of memory\n  \
+    6  the certificate doesn't prove OUT";
+
+// An example, at the end of the help text of `plain`.
+const PLAIN_HELP: &str = "Example:\n  \
+    stepmin plain part.stp > plain.stp";
+
+// An example, at the end of the help text of `check`.
+const CHECK_HELP: &str = "Example:\n  \
+    stepmin check ap214.exp part.stp";
 
 /// What the arguments request.
 #[derive(Clone, Copy, Debug, PartialEq, Eq)]
@@ -126,6 +134,7 @@ fn plain<'a>(alloc: Global) -> Result<Command<'a>, AllocError>
 {
     Command::new(alloc, "plain")
         .about("Writes the normal text of a STEP file")
+        .after_help(PLAIN_HELP)
         .arg(file(alloc))
 }
 
@@ -135,7 +144,8 @@ fn check<'a>(alloc: Global) -> Result<Command<'a>, AllocError>
     ensures local { IfOk result (λ command. (out-Command command).has_globals ≡ false) }
 {
     Command::new(alloc, "check")
-        .about("Tells where a STEP file breaks its schema")
+        .about("Reports where a STEP file breaks its schema")
+        .after_help(CHECK_HELP)
         .arg(schema(alloc))?
         .arg(file(alloc))
 }
@@ -249,7 +259,7 @@ pub fn unread_words(alloc: Global, error: &io::Error) -> Refusal
 /// # Errors
 /// - `Shown` for `--help`, `help` and `--version`.
 /// - `Usage` if the arguments aren't a command, OUT or CERT equals SCHEMA, CERT equals FILE or OUT,
-///   or a name after `--merge` is empty.
+///   or a name after `--merge` is empty, or begins with `@` and isn't that of a preset.
 /// - `Memory` if memory runs out.
 pub fn read_words<'p>(alloc: Global, words: &'p [String]) -> Result<Request<'p>, Refusal>
     ensures asked { IfOk result (AskFor (texts words.now)) }
@@ -260,12 +270,12 @@ pub fn read_words<'p>(alloc: Global, words: &'p [String]) -> Result<Request<'p>,
     ensures check_granted { (schema : List ℕ) → (file : List ℕ)
         → AsksCheck (texts words.now) schema file → IfErr result (λ refusal. refusal ≡ Memory) }
     ensures shrink_granted { (schema : List ℕ) → (file : List ℕ) → (output : List ℕ)
-        → (certificate : List ℕ) → (merge : Option (List ℕ)) → (strict : Bool)
-        → AsksShrink (texts words.now) schema file output certificate merge strict
+        → (certificate : List ℕ) → (merge : Option (List ℕ)) → (flags : Flags)
+        → AsksShrink (texts words.now) schema file output certificate merge flags
         → IfErr result (λ refusal. refusal ≡ Memory) }
     ensures verify_granted { (schema : List ℕ) → (file : List ℕ) → (output : List ℕ)
-        → (certificate : List ℕ) → (merge : Option (List ℕ))
-        → AsksVerify (texts words.now) schema file output certificate merge
+        → (certificate : List ℕ) → (merge : Option (List ℕ)) → (in_sets : Bool)
+        → AsksVerify (texts words.now) schema file output certificate merge in_sets
         → IfErr result (λ refusal. refusal ≡ Memory) }
 {
     let matches = match stepmin(alloc)?.try_get_matches_from(words) {

@@ -2,12 +2,14 @@
 
 ghost use Rattle.std.specs.Prelude.{
   ◌≡◌,
+  ◌==◌,
   Bool,
   IfOk,
   IfSome,
   Some,
   codes,
   false,
+  get_or,
   length,
   map,
   option_map,
@@ -22,8 +24,10 @@ ghost use Rattle.command_line.specs.Clap.{
   HasValues,
   certificate_rule,
   file_rule,
+  in_sets_rule,
   merge_rule,
   merging_app,
+  naming_app,
   output_rule,
   schema_rule,
   shrink_app,
@@ -32,12 +36,37 @@ ghost use Rattle.command_line.specs.Clap.{
   values_of,
   verify_app,
 };
-ghost use Rattle.command_line.specs.Commands.{Given, clash, has_empty_name, pieces};
+ghost use Rattle.command_line.specs.Commands.{
+  Given,
+  clash,
+  has_empty_name,
+  has_unknown_preset,
+  is_preset,
+  is_same_word,
+  is_unknown_preset,
+  pieces,
+};
 ghost use Rattle.command_line.specs.steps.AskedMerges.{shrink_given, text_of, verify_given};
 
 use crate::command_words::{file, schema};
 use clap::{Arg, ArgAction, ArgMatches, Command};
 use std::alloc::{AllocError, Global};
+
+// What NAMES and `--in-sets` mean, and examples, at the end of the help text of `shrink`.
+const SHRINK_HELP: &str = "NAMES are names of entities and presets, with commas between:\n  \
+    @points    points, directions, vectors and placements\n  \
+    @styles    colours and styles\n  \
+    @geometry  @points, curves and surfaces, but no topology\n  \
+    @all       all entities of the schema, also what a designer may mean as two things\n\n\
+    --in-sets usually merges more. Rules of the schema that aren't checked protect less.\n\n\
+    Examples:\n  \
+    stepmin shrink ap214.exp part.stp small.stp small.cert\n  \
+    stepmin shrink ap214.exp part.stp part.stp part.cert --merge @points,@styles --in-sets";
+
+// What the options have to be, and an example, at the end of the help text of `verify`.
+const VERIFY_HELP: &str = "--merge and --in-sets have to be those of `shrink`.\n\n\
+    Example:\n  \
+    stepmin verify ap214.exp part.stp small.stp small.cert";
 
 /// The arguments of `shrink`.
 #[derive(Clone, Copy, Debug, PartialEq, Eq)]
@@ -51,9 +80,11 @@ pub struct ShrinkRequest<'p> {
     pub output: &'p str,
     /// The path of the certificate, different from the other three.
     pub certificate: &'p str,
-    /// The names of the entity data types whose instances may be merged, separated by commas, none
-    /// of them empty; `None` stands for the usual ones.
+    /// The names of the entity data types whose instances may be merged, or of presets, which begin
+    /// with `@`. Commas separate them, and none is empty. `None` stands for the usual entities.
     pub merge: Option<&'p str>,
+    /// Whether an instance may be merged that stands alone in a SET or BAG.
+    pub in_sets: bool,
     /// Whether a schema with unchecked parts is refused.
     pub strict: bool,
 }
@@ -69,9 +100,11 @@ pub struct VerifyRequest<'p> {
     pub output: &'p str,
     /// The path of the certificate, different from the other three.
     pub certificate: &'p str,
-    /// The names of the entity data types whose instances may be merged, separated by commas, none
-    /// of them empty; `None` stands for the usual ones.
+    /// The names of the entity data types whose instances may be merged, or of presets, which begin
+    /// with `@`. Commas separate them, and none is empty. `None` stands for the usual entities.
     pub merge: Option<&'p str>,
+    /// Whether an instance may be merged that stands alone in a SET or BAG.
+    pub in_sets: bool,
 }
 
 // Returns the argument OUT.
@@ -82,7 +115,7 @@ fn output<'a>(alloc: Global) -> Arg<'a>
     Arg::new(alloc, "OUT")
         .required(true)
         .action(ArgAction::Set)
-        .help("The smaller file, which may be FILE")
+        .help("The smaller file; it may be FILE")
 }
 
 // Returns the argument CERT.
@@ -105,9 +138,18 @@ fn merge<'a>(alloc: Global) -> Arg<'a>
         .long("merge")
         .value_name("NAMES")
         .action(ArgAction::Set)
-        .help(
-            "The entities whose instances may be merged, with commas between; else the usual ones",
-        )
+        .help("Entities whose instances may be merged, or presets [default: @points]")
+}
+
+// Returns the option `--in-sets`.
+fn in_sets<'a>(alloc: Global) -> Arg<'a>
+    ensures rule { rule_of result ≡ in_sets_rule }
+    ensures local { result.global ≡ false }
+{
+    Arg::new(alloc, "in-sets")
+        .long("in-sets")
+        .action(ArgAction::SetTrue)
+        .help("Also merges an instance that stands alone in a SET or BAG")
 }
 
 // Returns the option `--strict`.
@@ -118,40 +160,70 @@ fn strict<'a>(alloc: Global) -> Arg<'a>
     Arg::new(alloc, "strict")
         .long("strict")
         .action(ArgAction::SetTrue)
-        .help("Refuses a schema of which a part isn't checked")
+        .help("Refuses a schema that has unchecked parts")
 }
 
-// Returns a command with SCHEMA and FILE.
-fn reading<'a>(alloc: Global, name: &'a str, about: &'a str) -> Result<Command<'a>, AllocError>
+// Returns a command with SCHEMA and FILE. `help` ends its help text.
+fn reading<'a>(
+    alloc: Global,
+    name: &'a str,
+    about: &'a str,
+    help: &'a str,
+) -> Result<Command<'a>, AllocError>
     ensures app { IfOk result (λ command.
         app_of command ≡ with_rule (with_rule (new_app name.entry.now) schema_rule) file_rule) }
     ensures local { IfOk result (λ command. (out-Command command).has_globals ≡ false) }
 {
     Command::new(alloc, name)
         .about(about)
+        .after_help(help)
         .arg(schema(alloc))?
         .arg(file(alloc))
 }
 
 // Returns a command with SCHEMA, FILE, OUT and CERT.
-fn writing<'a>(alloc: Global, name: &'a str, about: &'a str) -> Result<Command<'a>, AllocError>
+fn writing<'a>(
+    alloc: Global,
+    name: &'a str,
+    about: &'a str,
+    help: &'a str,
+) -> Result<Command<'a>, AllocError>
     ensures app { IfOk result (λ command. app_of command
         ≡ with_rule (with_rule (with_rule
         (with_rule (new_app name.entry.now) schema_rule) file_rule)
         output_rule) certificate_rule) }
     ensures local { IfOk result (λ command. (out-Command command).has_globals ≡ false) }
 {
-    let command = reading(alloc, name, about)?;
+    let command = reading(alloc, name, about, help)?;
     command.arg(output(alloc))?.arg(certificate(alloc))
 }
 
 // Returns a command with SCHEMA, FILE, OUT, CERT and `--merge`.
-fn merging<'a>(alloc: Global, name: &'a str, about: &'a str) -> Result<Command<'a>, AllocError>
+fn naming<'a>(
+    alloc: Global,
+    name: &'a str,
+    about: &'a str,
+    help: &'a str,
+) -> Result<Command<'a>, AllocError>
+    ensures app { IfOk result (λ command. app_of command ≡ naming_app name.entry.now) }
+    ensures local { IfOk result (λ command. (out-Command command).has_globals ≡ false) }
+{
+    let command = writing(alloc, name, about, help)?;
+    command.arg(merge(alloc))
+}
+
+// Returns a command with SCHEMA, FILE, OUT, CERT, `--merge` and `--in-sets`.
+fn merging<'a>(
+    alloc: Global,
+    name: &'a str,
+    about: &'a str,
+    help: &'a str,
+) -> Result<Command<'a>, AllocError>
     ensures app { IfOk result (λ command. app_of command ≡ merging_app name.entry.now) }
     ensures local { IfOk result (λ command. (out-Command command).has_globals ≡ false) }
 {
-    let command = writing(alloc, name, about)?;
-    command.arg(merge(alloc))
+    let command = naming(alloc, name, about, help)?;
+    command.arg(in_sets(alloc))
 }
 
 // Returns the command `shrink`.
@@ -163,6 +235,7 @@ pub(crate) fn shrink<'a>(alloc: Global) -> Result<Command<'a>, AllocError>
         alloc,
         "shrink",
         "Writes a smaller file, in which equal instances are one, and its certificate",
+        SHRINK_HELP,
     )?;
     command.arg(strict(alloc))
 }
@@ -175,15 +248,16 @@ pub(crate) fn verify<'a>(alloc: Global) -> Result<Command<'a>, AllocError>
     merging(
         alloc,
         "verify",
-        "Tells whether CERT is a certificate of FILE and OUT",
+        "Checks the certificate CERT of a smaller file OUT",
+        VERIFY_HELP,
     )
 }
 
-// Returns the values of SCHEMA, FILE, OUT, CERT and `--merge`.
+// Returns the values of SCHEMA, FILE, OUT, CERT, `--merge` and `--in-sets`.
 fn values_in<'p>(found: &ArgMatches<'p>) -> Option<VerifyRequest<'p>>
     ensures { (given : Given) → (takes_strict : Bool) → length given.operands ≡ 4
         → values_in (rows_of (found_of found.now)) ≡ values_of takes_strict given
-        → IfSome result (λ asked. verify_given asked given.strict ≡ given) }
+        → IfSome result (λ asked. verify_given asked given.flags.strict ≡ given) }
 {
     let schema = found.get_str("SCHEMA")?;
     let file = found.get_str("FILE")?;
@@ -195,6 +269,7 @@ fn values_in<'p>(found: &ArgMatches<'p>) -> Option<VerifyRequest<'p>>
         output,
         certificate,
         merge: found.get_str("merge"),
+        in_sets: found.get_flag("in-sets"),
     })
 }
 
@@ -208,6 +283,7 @@ fn shrinking<'p>(asked: VerifyRequest<'p>, strict: bool) -> ShrinkRequest<'p>
         output: asked.output,
         certificate: asked.certificate,
         merge: asked.merge,
+        in_sets: asked.in_sets,
         strict,
     }
 }
@@ -229,7 +305,7 @@ pub(crate) fn shrink_in<'p>(matches: &ArgMatches<'p>) -> Option<ShrinkRequest<'p
 pub(crate) fn verify_in<'p>(matches: &ArgMatches<'p>) -> Option<VerifyRequest<'p>>
     ensures values { (given : Given) → length given.operands ≡ 4
         → HasValues (subcommand_rows_of matches.now) (codes "verify") (values_of false given)
-        → IfSome result (λ asked. verify_given asked given.strict ≡ given) }
+        → IfSome result (λ asked. verify_given asked given.flags.strict ≡ given) }
     ensures command { IfSome result
         (λ _. subcommand_name_of matches.now ≡ Some (codes "verify")) }
 {
@@ -246,7 +322,51 @@ fn has_empty_name(merge: Option<&str>) -> bool
     }
 }
 
-// Returns the message for arguments that contradict each other, if they do.
+// Whether two words are equal, regardless of case.
+fn is_same_word(word: &str, other: &str) -> bool
+    ensures { result ≡ is_same_word word.now other.now }
+{
+    word.eq_ignore_ascii_case(other)
+}
+
+// Whether a word is the name of a preset.
+fn is_preset(word: &str) -> bool
+    ensures { result ≡ is_preset word.now }
+{
+    is_same_word(word, "@points")
+        || is_same_word(word, "@styles")
+        || is_same_word(word, "@geometry")
+        || is_same_word(word, "@all")
+}
+
+// Whether a word begins with `@`.
+fn begins_with_at(word: &str) -> bool
+    ensures { result ≡ (get_or word.now 0 0 == 64) }
+{
+    match word.as_bytes().first() {
+        Some(first) => *first == b'@',
+        None => false,
+    }
+}
+
+// Whether a word begins with `@`, and isn't the name of a preset.
+fn is_unknown_preset(word: &str) -> bool
+    ensures { result ≡ is_unknown_preset word.now }
+{
+    begins_with_at(word) && !is_preset(word)
+}
+
+// Whether one of the names begins with `@`, and isn't the name of a preset.
+fn has_unknown_preset(merge: Option<&str>) -> bool
+    ensures { result ≡ has_unknown_preset (text_of merge.entry) }
+{
+    match merge {
+        None => false,
+        Some(names) => names.split(',').any(|name| is_unknown_preset(name)),
+    }
+}
+
+// Returns the message for arguments that are wrong although clap accepts them, if they are.
 pub(crate) fn clash(
     schema: &str,
     file: &str,
@@ -271,6 +391,9 @@ pub(crate) fn clash(
     }
     if has_empty_name(merge) {
         return Some("error: a name in NAMES is empty\n");
+    }
+    if has_unknown_preset(merge) {
+        return Some("error: a preset in NAMES isn't one of @points, @styles, @geometry, @all\n");
     }
     None
 }

@@ -1,10 +1,11 @@
 //! Paths that lead nowhere, and paths with a file.
 
 use devices::device::{Failed, Sink, Source};
+use file_store::clash::{Clash, Paths, clash_of};
 use file_store::folder::Folder;
-use file_store::path_identity::lead_to_one;
 use files::store::Store;
 use std::alloc::Global;
+use std::fs::File;
 use std::rt::Files;
 use std::test::Fail;
 use std::{fs, io};
@@ -12,7 +13,7 @@ use std::{fs, io};
 const NOWHERE: &str = "no such folder/file";
 
 // Whether a file that doesn't exist fails at its first read, and not before.
-fn fails_at_a_read<R: Files>(rt: &R, alloc: Global) -> bool {
+fn fails_at_a_read<R: Files<File = File>>(rt: &R, alloc: Global) -> bool {
     let mut store = Folder::new(alloc, rt);
     let mut reader = store.reader(NOWHERE);
     let early = Source::failed(&reader);
@@ -21,7 +22,7 @@ fn fails_at_a_read<R: Files>(rt: &R, alloc: Global) -> bool {
 }
 
 // Whether a file that can't be created fails at its first write, and not before.
-fn fails_at_a_write<R: Files>(rt: &R, alloc: Global) -> bool {
+fn fails_at_a_write<R: Files<File = File>>(rt: &R, alloc: Global) -> bool {
     let mut store = Folder::new(alloc, rt);
     let mut writer = store.writer(NOWHERE);
     let early = Sink::failed(&writer);
@@ -41,7 +42,7 @@ fn a_path_that_leads_nowhere_fails_at_its_use(rt: HostRuntime) {
 const STANDING: &str = "a-standing-file.stp";
 
 // Whether the file at `STANDING` has this content.
-fn holds<R: Files>(rt: &R, alloc: Global, text: &str) -> bool {
+fn holds<R: Files<File = File>>(rt: &R, alloc: Global, text: &str) -> bool {
     let Ok(file) = fs::open(rt, STANDING) else {
         return false;
     };
@@ -53,7 +54,11 @@ fn holds<R: Files>(rt: &R, alloc: Global, text: &str) -> bool {
 
 // Returns a store in which `text` was written to `STANDING`, if the file there still has its old
 // content.
-fn written<'p, R: Files>(rt: &'p R, alloc: Global, text: &str) -> Option<Folder<'p, R>> {
+fn written<'p, R: Files<File = File>>(
+    rt: &'p R,
+    alloc: Global,
+    text: &str,
+) -> Option<Folder<'p, R>> {
     let mut store = Folder::new(alloc, rt);
     let mut writer = store.writer(STANDING);
     let put = writer.put(text.as_bytes());
@@ -66,7 +71,7 @@ fn written<'p, R: Files>(rt: &'p R, alloc: Global, text: &str) -> Option<Folder<
 }
 
 // Whether the old file stays if a run is abandoned.
-fn stays<R: Files>(rt: &R, alloc: Global) -> bool {
+fn stays<R: Files<File = File>>(rt: &R, alloc: Global) -> bool {
     let Some(store) = written(rt, alloc, "new") else {
         return false;
     };
@@ -75,7 +80,7 @@ fn stays<R: Files>(rt: &R, alloc: Global) -> bool {
 }
 
 // Whether the old file is replaced once a run is finished.
-fn is_replaced<R: Files>(rt: &R, alloc: Global) -> bool {
+fn is_replaced<R: Files<File = File>>(rt: &R, alloc: Global) -> bool {
     let Some(store) = written(rt, alloc, "new") else {
         return false;
     };
@@ -96,8 +101,8 @@ fn a_file_that_stands_is_replaced_as_a_whole(rt: HostRuntime) -> Result<(), Fail
 // The path of another file that is there during a test.
 const TOLD: &str = "a-told-file.stp";
 
-// Two paths, and whether both lead to one file. There is a file at `TOLD`, and none at the other
-// paths.
+// Paths of OUT and CERT, and whether both lead to one file. There is a file at `TOLD`, and none at
+// the other paths.
 const PAIRS: [(&str, &str, bool); 7] = [
     (TOLD, "./a-told-file.stp", true),
     (TOLD, "no-file.stp", false),
@@ -108,10 +113,25 @@ const PAIRS: [(&str, &str, bool); 7] = [
     ("/dev/null", "/dev/./null", false),
 ];
 
+// Whether OUT and CERT of a run lead to one file, if nothing else clashes.
+fn are_one<R: Files>(rt: &R, alloc: Global, output: &str, certificate: &str) -> Option<bool> {
+    let paths = Paths {
+        schema: "/dev/null",
+        file: "/dev/null",
+        output,
+        certificate,
+    };
+    match clash_of(alloc, rt, paths) {
+        Ok(None) => Some(false),
+        Ok(Some(Clash::OutputIsCertificate)) => Some(true),
+        _ => None,
+    }
+}
+
 // Whether each pair has the expected answer.
 fn are_told<R: Files>(rt: &R, alloc: Global) -> bool {
-    for (one, other, are_one) in PAIRS {
-        if lead_to_one(alloc, rt, one, other) != are_one {
+    for (output, certificate, wanted) in PAIRS {
+        if are_one(rt, alloc, output, certificate) != Some(wanted) {
             return false;
         }
     }

@@ -125,9 +125,9 @@ shrink_device writers words files holds exit r is = λ fresh clean.
         r.output,
         r.certificate,
         r.merge,
-        r.strict,
+        r.flags,
         r.asks,
-        role_can writers (asked_choice r.merge) r.strict (files r.schema) (files r.file)
+        role_can writers (asked_choice r.merge r.flags.in_sets) r.flags.strict (files r.schema) (files r.file)
             (written_at files holds r.output) (written_at files holds r.certificate) exit r.makes met.0 met.1,
       )))))
       | inr (inl failed) ↦ inl failed

@@ -1,6 +1,7 @@
 -- Which files are opened.
 use Rattle.std.proofs.Common.{◌≡◌, List, [], ◌∷◌, ◌++◌, ℕ, Option, None, Some, inl, inr, ap, subst, ◌∙◌}
 use Rattle.std.proofs.lemmas.List.{append_assoc}
+use Rattle.command_line.specs.Commands.{flags_of}
 use Rattle.command_line.specs.steps.AskedMerges.{text_of}
 use Rattle.command_line.specs.Requests.{AskFor}
 use Rattle.command_line.specs.declared.command_words.Request.{Request}
@@ -56,11 +57,12 @@ asked_opens words (requests.Check schema file) old new err status asks (inl open
 asked_opens words (requests.Shrink asked) old new err status asks (inl opens) = inl (
   smaller_opens asked,
   shrink_opens asked.schema.now asked.file.now asked.output.now asked.certificate.now (text_of asked.merge)
-      asked.strict asks,
+      (flags_of asked.in_sets asked.strict) asks,
   opens,
 )
 asked_opens words (requests.Verify asked) old new err status asks (inl opens) = inl (
   proof_opens asked,
-  verify_opens asked.schema.now asked.file.now asked.output.now asked.certificate.now (text_of asked.merge) asks,
+  verify_opens asked.schema.now asked.file.now asked.output.now asked.certificate.now (text_of asked.merge)
+      asked.in_sets asks,
   opens,
 )

@@ -1,7 +1,7 @@
 -- What a run of the command line comes to.
 use Rattle.std.proofs.Common.{◌≡◌, Bool, false, List, ℕ, Option, inl, inr, refl, subst, codes, arith}
 use Rattle.std.specs.Prelude.{◌⊎◌, string_bytes}
-use Rattle.command_line.specs.Commands.{AsksCheck, AsksNothing, AsksPlain, AsksShrink, AsksVerify, four}
+use Rattle.command_line.specs.Commands.{AsksCheck, AsksNothing, AsksPlain, AsksShrink, AsksVerify, Flags, flags_of, four}
 use Rattle.command_line.specs.steps.AskedMerges.{text_of}
 use Rattle.command_line.specs.Requests.{AskFor, CallFor}
 use Rattle.command_line.specs.declared.command_words.Request.{Request}
@@ -27,11 +27,11 @@ use Rattle.commands.proofs.Words.{Asks, clash_apart, for_check, for_nothing, for
 abbrev Text : Type 0
 Text = List ℕ
 
-pub verify_word : (words : List Text) (s f o c : Text) (m : Option Text) → AsksVerify words s f o c m
+pub verify_word : (words : List Text) (s f o c : Text) (m : Option Text) (i : Bool) → AsksVerify words s f o c m i
     → word_of words ≡ codes "verify"
-verify_word words s f o c m asks = given_word words (codes "verify") (four s f o c m false) asks.0
+verify_word words s f o c m i asks = given_word words (codes "verify") (four s f o c m (flags_of i false)) asks.0
 
-pub shrink_word : (words : List Text) (s f o c : Text) (m : Option Text) (t : Bool) → AsksShrink words s f o c m t
+pub shrink_word : (words : List Text) (s f o c : Text) (m : Option Text) (t : Flags) → AsksShrink words s f o c m t
     → word_of words ≡ codes "shrink"
 shrink_word words s f o c m t asks = given_word words (codes "shrink") (four s f o c m t) asks.0
 
@@ -40,9 +40,9 @@ pub none_asked : (words : List Text) (request : Request) → AsksNothing words �
 none_asked words (requests.Plain path) none asks = none.0 path.now asks
 none_asked words (requests.Check schema file) none asks = none.1 schema.now file.now asks
 none_asked words (requests.Shrink asked) none asks = none.2 asked.schema.now asked.file.now asked.output.now
-    asked.certificate.now (text_of asked.merge) asked.strict asks
+    asked.certificate.now (text_of asked.merge) (flags_of asked.in_sets asked.strict) asks
 none_asked words (requests.Verify asked) none asks = none.3 asked.schema.now asked.file.now asked.output.now
-    asked.certificate.now (text_of asked.merge) asks
+    asked.certificate.now (text_of asked.merge) asked.in_sets asks
 
 module _ (writers : Writers) (words : List Text) (files : List ℕ → Stored)
     (holds : List ℕ → Option (List ℕ))
@@ -58,7 +58,7 @@ module _ (writers : Writers) (words : List Text) (files : List ℕ → Stored)
     output = asked.output.now;
     certificate = asked.certificate.now;
     merge = text_of asked.merge;
-    strict = asked.strict;
+    flags = flags_of asked.in_sets asked.strict;
     asks = asks;
     makes = does;
   })))
@@ -68,6 +68,7 @@ module _ (writers : Writers) (words : List Text) (files : List ℕ → Stored)
     asked.output.now,
     asked.certificate.now,
     text_of asked.merge,
+    asked.in_sets,
     asks,
     does,
   ))))
@@ -85,7 +86,7 @@ written_asked words (requests.Shrink asked) path asks none is = none (
   asked.output.now,
   asked.certificate.now,
   text_of asked.merge,
-  asked.strict,
+  flags_of asked.in_sets asked.strict,
   asks,
   is,
 )
@@ -136,8 +137,8 @@ refused_says Memory exit r =
 pub record IsGranted (words : List Text) (refusal : Refusal) : Type 0 where
   pub plain : (path : Text) → AsksPlain words path → refusal ≡ Memory
   pub check : (schema file : Text) → AsksCheck words schema file → refusal ≡ Memory
-  pub shrink : (s f o c : Text) (m : Option Text) (t : Bool) → AsksShrink words s f o c m t → refusal ≡ Memory
-  pub verify : (s f o c : Text) (m : Option Text) → AsksVerify words s f o c m → refusal ≡ Memory
+  pub shrink : (s f o c : Text) (m : Option Text) (t : Flags) → AsksShrink words s f o c m t → refusal ≡ Memory
+  pub verify : (s f o c : Text) (m : Option Text) (i : Bool) → AsksVerify words s f o c m i → refusal ≡ Memory
 
 memory_told : (refusal : Refusal) (exit : Exit) → refusal ≡ Memory
     → Refuses refusal exit → IsWantOfMemory exit.err exit.status
@@ -154,8 +155,8 @@ refused_opens words (for_check schema file asks) refusal granted exit r =
     inr (memory_told refusal exit (granted.check schema file asks) r)
 refused_opens words (for_shrink s f o c m t asks) refusal granted exit r =
     inr (memory_told refusal exit (granted.shrink s f o c m t asks) r)
-refused_opens words (for_verify s f o c m asks) refusal granted exit r =
-    inr (memory_told refusal exit (granted.verify s f o c m asks) r)
+refused_opens words (for_verify s f o c m i asks) refusal granted exit r =
+    inr (memory_told refusal exit (granted.verify s f o c m i asks) r)
 refused_opens words (for_nothing none) refusal granted exit r = inl none
 
 module _ (writers : Writers) (words : List Text) (files : List ℕ → Stored)
@@ -179,19 +180,20 @@ module _ (writers : Writers) (words : List Text) (files : List ℕ → Stored)
     output = o;
     certificate = c;
     merge = m;
-    strict = t;
+    flags = t;
     asks = asks;
-    makes = refused_smaller writers refusal (asked_choice m) t (files s) (files f) (written_at files holds o)
+    makes = refused_smaller writers refusal (asked_choice m t.in_sets) t.strict (files s) (files f) (written_at files holds o)
         (written_at files holds c) exit (granted.shrink s f o c m t asks) r (same o) (same c);
   })))
-  refused_runs (for_verify s f o c m asks) refusal granted calls r same = inr (inr (inr (inl (
+  refused_runs (for_verify s f o c m i asks) refusal granted calls r same = inr (inr (inr (inl (
     s,
     f,
     o,
     c,
     m,
+    i,
     asks,
-    refused_verifies refusal (asked_choice m) (files s) (files f) (files o) (files c) exit
-        (granted.verify s f o c m asks) r,
+    refused_verifies refusal (asked_choice m i) (files s) (files f) (files o) (files c) exit
+        (granted.verify s f o c m i asks) r,
   ))))
   refused_runs (for_nothing none) refusal granted calls r same = inr (inr (inr (inr (none, (refusal, calls, r)))))

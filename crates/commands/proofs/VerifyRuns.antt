@@ -1,5 +1,5 @@
 -- What a run comes to that verifies an output.
-use Rattle.std.proofs.Common.{◌≡◌, true, false, List, ℕ, Option, Result, Ok, Err, IfSome, inl, inr, refl, sym, ap, ◌∙◌, subst, true≢false, arith}
+use Rattle.std.proofs.Common.{◌≡◌, Bool, true, false, List, ℕ, Option, Result, Ok, Err, IfSome, inl, inr, refl, sym, ap, ◌∙◌, subst, true≢false, arith}
 use Rattle.std.specs.Prelude.{◌⊎◌}
 use Rattle.conformance.specs.Choices.{Choice}
 use Rattle.command_line.specs.Commands.{AsksVerify}
@@ -149,15 +149,15 @@ all_can choice schema file output certificate outcome (inl (fault, is, first)) =
     ]
 
 pub verify_device : (writers : Writers) (words : List (List ℕ)) (files : List ℕ → Stored)
-    (s f o c : List ℕ) (m : Option (List ℕ))
-    (choice : Choice) (exit : Exit) → AsksVerify words s f o c m
+    (s f o c : List ℕ) (m : Option (List ℕ)) (i : Bool)
+    (choice : Choice) (exit : Exit) → AsksVerify words s f o c m i
     → RunsVerify choice (files s) (files f) (files o) (files c) exit → exit.status ≡ 4
     → IsDevices writers words files exit
-verify_device writers words files s f o c m choice exit asks r is = λ fresh clean.
+verify_device writers words files s f o c m i choice exit asks r is = λ fresh clean.
     elim (ends_by_devices (CanFail (files s) ⊎ CanFail (files f) ⊎ CanFail (files o) ⊎ CanFail (files c))
     (verify_ending r.outcome) exit r.ends
     (all_can choice (files s) (files f) (files o) (files c) r.outcome r.verifies) is fresh clean) [
-      | inl can ↦ inr (inr (inr (inr (inl (s, f, o, c, m, asks, can)))))
+      | inl can ↦ inr (inr (inr (inr (inl (s, f, o, c, m, i, asks, can)))))
       | inr (inl failed) ↦ inl failed
       | inr (inr failed) ↦ inr (inl failed)
     ]

@@ -3,7 +3,7 @@ use Rattle.std.proofs.Common.{◌≡◌, ℕ, Bool, true, false, List, [], ◌�
 use Rattle.std.specs.Prelude.{get_or, is_some}
 use Rattle.std.specs.Str.{bytes_eq}
 use Rattle.std.proofs.lemmas.Slice.Eq.{bytes_eq-Decides}
-use Rattle.command_line.specs.Commands.{AreOfCommand, AsksCheck, AsksNothing, AsksPlain, AsksShrink, AsksVerify, Given, clash, four}
+use Rattle.command_line.specs.Commands.{AreOfCommand, AsksCheck, AsksNothing, AsksPlain, AsksShrink, AsksVerify, Flags, Given, clash, flags_of, four}
 use Rattle.command_line.proofs.Asking.{AreAny, any_check, any_merging, any_plain, asks_or_not, four_fit}
 use Rattle.command_line.proofs.Finishing.{command}
 use Rattle.command_line.proofs.Settling.{given_once}
@@ -41,9 +41,9 @@ abbrev operand : ℕ → Given → Text
 operand i given = get_or given.operands i []
 
 -- words give a command that merges one value for each argument
-pub merged_once : (b : Bool) (words : List Text) (s f o c s' f' o' c' : Text) (m m' : Option Text) (t t' : Bool)
-    → AreOfCommand words (command b) (four s f o c m t) → (b ≡ false → t ≡ false)
-    → AreOfCommand words (command b) (four s' f' o' c' m' t') → (b ≡ false → t' ≡ false)
+pub merged_once : (b : Bool) (words : List Text) (s f o c s' f' o' c' : Text) (m m' : Option Text) (t t' : Flags)
+    → AreOfCommand words (command b) (four s f o c m t) → (b ≡ false → t.strict ≡ false)
+    → AreOfCommand words (command b) (four s' f' o' c' m' t') → (b ≡ false → t'.strict ≡ false)
     → (s ≡ s') × (f ≡ f') × (o ≡ o') × (c ≡ c') × (m ≡ m') × (t ≡ t')
 merged_once b words s f o c s' f' o' c' m m' t t' x fits y fits_too =
     let same = given_once b words s f o c m t (four s' f' o' c' m' t') x (four_fit b s f o c m t fits) y
@@ -53,7 +53,7 @@ merged_once b words s f o c s' f' o' c' m m' t t' x fits y fits_too =
       ap (operand 2) same,
       ap (operand 3) same,
       ap (λ (g : Given). g.merge) same,
-      ap (λ (g : Given). g.strict) same,
+      ap (λ (g : Given). g.flags) same,
     )
 
 -- what can be meant has two paths
@@ -72,10 +72,10 @@ clash_apart schema file output certificate merge none same = some_none (sym clas
 pub data Asks (words : List Text) : Type 0 where
   for_plain : (path : Text) → AsksPlain words path → Asks words
   for_check : (schema file : Text) → AsksCheck words schema file → Asks words
-  for_shrink : (schema file output certificate : Text) (merge : Option Text) (strict : Bool)
-      → AsksShrink words schema file output certificate merge strict → Asks words
-  for_verify : (schema file output certificate : Text) (merge : Option Text)
-      → AsksVerify words schema file output certificate merge → Asks words
+  for_shrink : (schema file output certificate : Text) (merge : Option Text) (flags : Flags)
+      → AsksShrink words schema file output certificate merge flags → Asks words
+  for_verify : (schema file output certificate : Text) (merge : Option Text) (in_sets : Bool)
+      → AsksVerify words schema file output certificate merge in_sets → Asks words
   for_nothing : AsksNothing words → Asks words
 
 -- what can't be meant
@@ -90,7 +90,7 @@ module _ (words : List Text) (s f o c : Text) (m : Option Text) (said : Text) (c
       some_none : Some said ≡ None → ⊥
       some_none e = true≢false (ap is_some e)
 
-  shrink_clash : (t : Bool) → AreOfCommand words (codes "shrink") (four s f o c m t) → AsksNothing words
+  shrink_clash : (t : Flags) → AreOfCommand words (codes "shrink") (four s f o c m t) → AsksNothing words
   shrink_clash t of = (
     (λ path asks. apart words (codes "plain") (codes "shrink") refl refl (plain_word words path asks) word),
     (λ schema file asks. apart words (codes "check") (codes "shrink") refl refl (check_word words schema file asks)
@@ -98,59 +98,60 @@ module _ (words : List Text) (s f o c : Text) (m : Option Text) (said : Text) (c
     (λ s' f' o' c' m' t' asks. let once = merged_once true words s f o c s' f' o' c' m m' t t' of
         (λ e. absurd (true≢false e)) asks.0 (λ e. absurd (true≢false e)) in
         another_clash s' f' o' c' m' once.0 once.1 once.2 once.3 once.4 asks.1),
-    (λ s' f' o' c' m' asks. apart words (codes "verify") (codes "shrink") refl refl
-        (given_word words (codes "verify") (four s' f' o' c' m' false) asks.0) word),
+    (λ s' f' o' c' m' i asks. apart words (codes "verify") (codes "shrink") refl refl
+        (given_word words (codes "verify") (four s' f' o' c' m' (flags_of i false)) asks.0) word),
   )
     where
       word : word_of words ≡ codes "shrink"
       word = given_word words (codes "shrink") (four s f o c m t) of
 
-  verify_clash : AreOfCommand words (codes "verify") (four s f o c m false) → AsksNothing words
-  verify_clash of = (
+  verify_clash : (i : Bool) → AreOfCommand words (codes "verify") (four s f o c m (flags_of i false)) → AsksNothing words
+  verify_clash i of = (
     (λ path asks. apart words (codes "plain") (codes "verify") refl refl (plain_word words path asks) word),
     (λ schema file asks. apart words (codes "check") (codes "verify") refl refl (check_word words schema file asks)
         word),
     (λ s' f' o' c' m' t' asks. apart words (codes "shrink") (codes "verify") refl refl
         (given_word words (codes "shrink") (four s' f' o' c' m' t') asks.0) word),
-    (λ s' f' o' c' m' asks. let once = merged_once false words s f o c s' f' o' c' m m' false false of (λ e. refl)
-        asks.0 (λ e. refl) in
+    (λ s' f' o' c' m' i' asks. let once = merged_once false words s f o c s' f' o' c' m m' (flags_of i false)
+        (flags_of i' false) of (λ e. refl) asks.0 (λ e. refl) in
         another_clash s' f' o' c' m' once.0 once.1 once.2 once.3 once.4 asks.1),
   )
     where
       word : word_of words ≡ codes "verify"
-      word = given_word words (codes "verify") (four s f o c m false) of
+      word = given_word words (codes "verify") (four s f o c m (flags_of i false)) of
 
 -- `verify` takes no `--strict`
-unstrict : (words : List Text) (s f o c : Text) (m : Option Text) (strict : Bool)
-    → AreOfCommand words (codes "verify") (four s f o c m strict) → strict ≡ false
-    → AreOfCommand words (codes "verify") (four s f o c m false)
-unstrict words s f o c m strict of none = subst (λ t. AreOfCommand words (codes "verify") (four s f o c m t)) none of
+unstrict : (words : List Text) (s f o c : Text) (m : Option Text) (t : Flags)
+    → AreOfCommand words (codes "verify") (four s f o c m t) → t.strict ≡ false
+    → AreOfCommand words (codes "verify") (four s f o c m (flags_of t.in_sets false))
+unstrict words s f o c m t of none =
+    subst (λ x. AreOfCommand words (codes "verify") (four s f o c m (flags_of t.in_sets x))) none of
 
 -- four operands are given
-four_asked : (b : Bool) (words : List Text) (s f o c : Text) (m : Option Text) (strict : Bool)
-    → AreOfCommand words (command b) (four s f o c m strict) → (b ≡ false → strict ≡ false) → Asks words
-four_asked true words s f o c m strict of fits = go (clash s f o c m) refl
+four_asked : (b : Bool) (words : List Text) (s f o c : Text) (m : Option Text) (t : Flags)
+    → AreOfCommand words (command b) (four s f o c m t) → (b ≡ false → t.strict ≡ false) → Asks words
+four_asked true words s f o c m t of fits = go (clash s f o c m) refl
   where
     go : (said : Option Text) → clash s f o c m ≡ said → Asks words
-    go None none = for_shrink s f o c m strict (of, none)
-    go (Some said) is = for_nothing (shrink_clash words s f o c m said is strict of)
-four_asked false words s f o c m strict of fits = go (clash s f o c m) refl
+    go None none = for_shrink s f o c m t (of, none)
+    go (Some said) is = for_nothing (shrink_clash words s f o c m said is t of)
+four_asked false words s f o c m t of fits = go (clash s f o c m) refl
   where
     go : (said : Option Text) → clash s f o c m ≡ said → Asks words
-    go None none = for_verify s f o c m (unstrict words s f o c m strict of (fits refl), none)
+    go None none = for_verify s f o c m t.in_sets (unstrict words s f o c m t of (fits refl), none)
     go (Some said) is =
-        for_nothing (verify_clash words s f o c m said is (unstrict words s f o c m strict of (fits refl)))
+        for_nothing (verify_clash words s f o c m said is t.in_sets (unstrict words s f o c m t of (fits refl)))
 
 asks_given : (words : List Text) (b : Bool) (all : Given) → AreOfCommand words (command b) all
-    → (b ≡ false → all.strict ≡ false) → length all.operands ≡ 4 → Asks words
+    → (b ≡ false → all.flags.strict ≡ false) → length all.operands ≡ 4 → Asks words
 asks_given words b all of fits are = go all.operands refl are
   where
-    by : (s f o c : Text) → AreOfCommand words (command b) (four s f o c all.merge all.strict) → Asks words
-    by s f o c of = four_asked b words s f o c all.merge all.strict of fits
+    by : (s f o c : Text) → AreOfCommand words (command b) (four s f o c all.merge all.flags) → Asks words
+    by s f o c of = four_asked b words s f o c all.merge all.flags of fits
 
     go : (os : List Text) → all.operands ≡ os → length os ≡ 4 → Asks words
     go (s ∷ f ∷ o ∷ c ∷ []) is long = by s f o c
-        (subst (λ os. AreOfCommand words (command b) (record { operands = os; merge = all.merge; strict = all.strict })) is of)
+        (subst (λ os. AreOfCommand words (command b) (record { operands = os; merge = all.merge; flags = all.flags })) is of)
     go [] is long = absurd (omega (arith, long))
     go (s ∷ []) is long = absurd (omega (arith, long))
     go (s ∷ f ∷ []) is long = absurd (omega (arith, long))

@@ -1,6 +1,6 @@
 -- The outcome of a run of the command line.
 use Rattle.std.specs.Prelude.{◌≡◌, ◌⊎◌, ℕ, List, [], ◌∷◌, Option, Some, Bool, true, false, Err}
-use Rattle.command_line.specs.Commands.{AsksCheck, AsksNothing, AsksPlain, AsksShrink, AsksVerify}
+use Rattle.command_line.specs.Commands.{AsksCheck, AsksNothing, AsksPlain, AsksShrink, AsksVerify, Flags}
 use Rattle.command_line.specs.steps.AskedMerges.{text_of}
 use Rattle.command_line.specs.Requests.{CallFor}
 use Rattle.command_line.specs.declared.command_words.Request.{Request}
@@ -23,11 +23,11 @@ abbrev pub Does : Writers → Request → (List ℕ → Stored) → (List ℕ �
 Does writers (requests.Plain path) files holds exit = RunsPlain (files path.now) exit
 Does writers (requests.Check schema file) files holds exit = RunsCheck (files schema.now) (files file.now) exit
 Does writers (requests.Shrink asked) files holds exit =
-    MakesSmaller writers (asked_choice (text_of asked.merge)) asked.strict (files asked.schema.now)
+    MakesSmaller writers (asked_choice (text_of asked.merge) asked.in_sets) asked.strict (files asked.schema.now)
     (files asked.file.now) (written_at files holds asked.output.now)
     (written_at files holds asked.certificate.now) exit
 Does writers (requests.Verify asked) files holds exit =
-    RunsVerify (asked_choice (text_of asked.merge)) (files asked.schema.now) (files asked.file.now)
+    RunsVerify (asked_choice (text_of asked.merge) asked.in_sets) (files asked.schema.now) (files asked.file.now)
     (files asked.output.now) (files asked.certificate.now) exit
 
 -- Nothing was done, and the refusal that the arguments have was printed.
@@ -47,16 +47,16 @@ pub record RunsMerged (writers : Writers) (words : List (List ℕ)) (files : Lis
   pub output : List ℕ
   pub certificate : List ℕ
   pub merge : Option (List ℕ)
-  pub strict : Bool
-  pub asks : AsksShrink words schema file output certificate merge strict
-  pub makes : MakesSmaller writers (asked_choice merge) strict (files schema) (files file)
+  pub flags : Flags
+  pub asks : AsksShrink words schema file output certificate merge flags
+  pub makes : MakesSmaller writers (asked_choice merge flags.in_sets) flags.strict (files schema) (files file)
       (written_at files holds output) (written_at files holds certificate) exit
 
 -- The arguments request whether an output is proved, and that was verified.
 abbrev pub RunsVerified : List (List ℕ) → (List ℕ → Stored) → Exit → Type 0
 RunsVerified words files exit = (schema : List ℕ) × (file : List ℕ) × (output : List ℕ) × (certificate : List ℕ)
-    × (merge : Option (List ℕ)) × AsksVerify words schema file output certificate merge
-    × RunsVerify (asked_choice merge) (files schema) (files file) (files output) (files certificate) exit
+    × (merge : Option (List ℕ)) × (in_sets : Bool) × AsksVerify words schema file output certificate merge in_sets
+    × RunsVerify (asked_choice merge in_sets) (files schema) (files file) (files output) (files certificate) exit
 
 -- The arguments request `plain`, `check`, `shrink` or `verify`, and that was run; or they request nothing.
 abbrev pub Runs : Writers → List (List ℕ) → (List ℕ → Stored) → (List ℕ → Option (List ℕ)) → Exit → Type 0
@@ -78,14 +78,14 @@ HasFailedWriter writers = (writer : writers.Writer) × (writers.has_failed write
 -- The arguments request a smaller file, and schema or file can fail, or a writer has failed.
 abbrev pub AsksShrinkFailing : Writers → List (List ℕ) → (List ℕ → Stored) → Type 0
 AsksShrinkFailing writers words files = (schema : List ℕ) × (file : List ℕ) × (output : List ℕ)
-    × (certificate : List ℕ) × (merge : Option (List ℕ)) × (strict : Bool)
-    × AsksShrink words schema file output certificate merge strict
+    × (certificate : List ℕ) × (merge : Option (List ℕ)) × (flags : Flags)
+    × AsksShrink words schema file output certificate merge flags
     × (CanFail (files schema) ⊎ CanFail (files file) ⊎ HasFailedWriter writers)
 
 -- The arguments request a verification of four files, one of which can fail.
 abbrev pub AsksVerifyFailing : List (List ℕ) → (List ℕ → Stored) → Type 0
 AsksVerifyFailing words files = (schema : List ℕ) × (file : List ℕ) × (output : List ℕ) × (certificate : List ℕ)
-    × (merge : Option (List ℕ)) × AsksVerify words schema file output certificate merge
+    × (merge : Option (List ℕ)) × (in_sets : Bool) × AsksVerify words schema file output certificate merge in_sets
     × (CanFail (files schema) ⊎ CanFail (files file) ⊎ CanFail (files output) ⊎ CanFail (files certificate))
 
 -- The arguments request a command that reads a file that can fail, or a smaller file, and a writer has failed.
@@ -105,7 +105,7 @@ IsDevices writers words files exit = exit.out.before.has_failed ≡ false → ex
 -- The arguments request a smaller file or a certificate at this path.
 abbrev pub AsksToWrite : List (List ℕ) → List ℕ → Type 0
 AsksToWrite words path = (schema : List ℕ) × (file : List ℕ) × (output : List ℕ) × (certificate : List ℕ)
-    × (merge : Option (List ℕ)) × (strict : Bool) × AsksShrink words schema file output certificate merge strict
+    × (merge : Option (List ℕ)) × (flags : Flags) × AsksShrink words schema file output certificate merge flags
     × ((path ≡ output) ⊎ (path ≡ certificate))
 
 -- The arguments request a command that makes these accesses, in this order.
@@ -113,12 +113,12 @@ pub data AskToOpen (words : List (List ℕ)) : List Access → Type 0 where
   plain_opens : (path : List ℕ) → AsksPlain words path → AskToOpen words (to_read path ∷ [])
   check_opens : (schema file : List ℕ) → AsksCheck words schema file
       → AskToOpen words (to_read schema ∷ to_read file ∷ [])
-  shrink_opens : (schema file output certificate : List ℕ) (merge : Option (List ℕ)) (strict : Bool)
-      → AsksShrink words schema file output certificate merge strict
+  shrink_opens : (schema file output certificate : List ℕ) (merge : Option (List ℕ)) (flags : Flags)
+      → AsksShrink words schema file output certificate merge flags
       → AskToOpen words (to_read schema ∷ to_read file ∷ to_write output ∷ to_write certificate ∷ to_keep output
       ∷ to_keep certificate ∷ [])
-  verify_opens : (schema file output certificate : List ℕ) (merge : Option (List ℕ))
-      → AsksVerify words schema file output certificate merge
+  verify_opens : (schema file output certificate : List ℕ) (merge : Option (List ℕ)) (in_sets : Bool)
+      → AsksVerify words schema file output certificate merge in_sets
       → AskToOpen words (to_read schema ∷ to_read file ∷ to_read output ∷ to_read certificate ∷ [])
 
 -- Memory ran out, and that was reported on the error output.

@@ -1,6 +1,6 @@
 -- The outcome of a run that merges a file.
 use Rattle.std.specs.Prelude.{◌≡◌, ◌⊎◌, ℕ, List, [], Option, None, Some, IfSome, Bool, true, false, Result, Ok, Err, is_some}
-use Rattle.conformance.specs.Choices.{Choice, usual, given}
+use Rattle.conformance.specs.Choices.{Choice, ChosenNames, usual, given}
 use Rattle.command_line.specs.Commands.{pieces}
 use Rattle.files.specs.Stores.{HoldsWritten, Stored}
 use Rattle.files.specs.declared.fault.Role.TheVariants as roles
@@ -13,9 +13,13 @@ use Rattle.commands.specs.Endings.{Ending, EndsAs, Exit, IsUntouched, Output, Ou
 use Rattle.commands.specs.Faults.{fault_ending}
 
 -- the entity data types that the arguments choose: the usual ones, or those of NAMES
-abbrev pub asked_choice : Option (List ℕ) → Choice
-asked_choice None = usual
-asked_choice (Some names) = given (pieces names)
+abbrev pub asked_names : Option (List ℕ) → ChosenNames
+asked_names None = usual
+asked_names (Some names) = given (pieces names)
+
+-- what the arguments choose: entity data types, and whether `--in-sets` is present
+abbrev pub asked_choice : Option (List ℕ) → Bool → Choice
+asked_choice merge in_sets = record { names = asked_names merge; in_sets = in_sets }
 
 -- how a merge ends: with the report, the number of instances kept and the last round, or with the fault
 abbrev pub shrink_ending : Result Summary Fault → Ending

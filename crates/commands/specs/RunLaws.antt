@@ -1,7 +1,7 @@
 -- Laws of runs of the command line, in stores with these writers.
 use Rattle.std.specs.Prelude.{◌≡◌, ◌⊎◌, ℕ, List, Option, Some, Bool, true, false}
 use Rattle.std.specs.Io.KnownBytes.{Keeps}
-use Rattle.command_line.specs.Commands.{AsksCheck, AsksPlain, AsksShrink, AsksVerify}
+use Rattle.command_line.specs.Commands.{AsksCheck, AsksPlain, AsksShrink, AsksVerify, Flags}
 use Rattle.files.specs.Stores.{Stored}
 use Rattle.commands.specs.CommandLines.{IsDevices, Runs, written_at}
 use Rattle.commands.specs.Endings.{Exit}
@@ -33,17 +33,17 @@ CheckIsRun writers = OfRuns writers (λ words files holds exit. (schema : List �
 -- were before. Both paths hold what was written, or their former content if nothing was.
 abbrev pub ShrinkIsRun : Writers → Type 0
 ShrinkIsRun writers = OfRuns writers (λ words files holds exit. (schema : List ℕ) → (file : List ℕ)
-    → (output : List ℕ) → (certificate : List ℕ) → (merge : Option (List ℕ)) → (strict : Bool)
-    → AsksShrink words schema file output certificate merge strict
-    → MakesSmaller writers (asked_choice merge) strict (files schema) (files file) (written_at files holds output)
+    → (output : List ℕ) → (certificate : List ℕ) → (merge : Option (List ℕ)) → (flags : Flags)
+    → AsksShrink words schema file output certificate merge flags
+    → MakesSmaller writers (asked_choice merge flags.in_sets) flags.strict (files schema) (files file) (written_at files holds output)
     (written_at files holds certificate) exit)
 
 -- If the arguments request whether an output is proved, that was verified with the four files.
 abbrev pub VerifyIsRun : Writers → Type 0
 VerifyIsRun writers = OfRuns writers (λ words files holds exit. (schema : List ℕ) → (file : List ℕ)
-    → (output : List ℕ) → (certificate : List ℕ) → (merge : Option (List ℕ))
-    → AsksVerify words schema file output certificate merge
-    → RunsVerify (asked_choice merge) (files schema) (files file) (files output) (files certificate) exit)
+    → (output : List ℕ) → (certificate : List ℕ) → (merge : Option (List ℕ)) → (in_sets : Bool)
+    → AsksVerify words schema file output certificate merge in_sets
+    → RunsVerify (asked_choice merge in_sets) (files schema) (files file) (files output) (files certificate) exit)
 
 -- The status is one that the program has.
 abbrev pub StatusIsKnown : Writers → Type 0

@@ -8,7 +8,7 @@ ghost use Rattle.files.specs.Lines.{line_of};
 ghost use Rattle.files.specs.Stores.{Opens, file_seen};
 ghost use Rattle.files.specs.declared.fault.FileFault.TheVariants.{Device};
 ghost use Rattle.files.specs.declared.fault.Role.TheVariants.{File};
-ghost use Rattle.merge_choices.specs.ChosenEntities.{choice_of};
+ghost use Rattle.merge_choices.specs.ChosenEntities.{choice_of, names_of};
 ghost use Rattle.commands.specs.CommandLines.{AsksToWrite, Does, OpensAsked, Runs, written_at};
 ghost use Rattle.commands.specs.steps.ComputedRequests.{
   IsApart,
@@ -19,7 +19,7 @@ ghost use Rattle.commands.specs.steps.ComputedRequests.{
   smaller_opens,
 };
 ghost use Rattle.commands.specs.Endings.{Prints, exit_of, output_seen};
-ghost use Rattle.commands.specs.Merges.{MakesSmaller, asked_choice, writers_of};
+ghost use Rattle.commands.specs.Merges.{MakesSmaller, asked_choice, asked_names, writers_of};
 ghost use Rattle.commands.specs.Runs.{Refuses};
 ghost use Rattle.commands.specs.Statuses.{IsStatus};
 ghost use Rattle.commands.specs.Verifies.{RunsVerify};
@@ -74,15 +74,32 @@ pub fn refuse_to_read<E: Sink>(err: &mut E) -> u8
 }
 
 // Returns the choice of entity data types: those of NAMES, if any, otherwise the usual ones.
-fn chosen(alloc: Global, merge: Option<&str>, strict: bool) -> Result<Choice, AllocError>
-    ensures names { IfOk result (λ choice. choice_of choice ≡ asked_choice (text_of merge.entry)) }
+fn chosen_names(alloc: Global, merge: Option<&str>) -> Result<Names, AllocError>
+    ensures { IfOk result (λ names. names_of names ≡ asked_names (text_of merge.entry)) }
+{
+    match merge {
+        None => Ok(Names::Usual),
+        Some(names) => Ok(Names::Given(merged_names(alloc, names)?)),
+    }
+}
+
+// Returns what the arguments choose.
+fn chosen(
+    alloc: Global,
+    merge: Option<&str>,
+    in_sets: bool,
+    strict: bool,
+) -> Result<Choice, AllocError>
+    ensures choice { IfOk result
+        (λ choice. choice_of choice ≡ asked_choice (text_of merge.entry) in_sets) }
     ensures strict { IfOk result (λ choice. choice.strict ≡ strict) }
 {
-    let names = match merge {
-        None => Names::Usual,
-        Some(names) => Names::Given(merged_names(alloc, names)?),
-    };
-    Ok(Choice { names, strict })
+    let names = chosen_names(alloc, merge)?;
+    Ok(Choice {
+        names,
+        in_sets,
+        strict,
+    })
 }
 
 // Merges the requested file under this choice, and returns the exit status.
@@ -142,7 +159,7 @@ fn shrink_asked<'p, S: Store<'p>, O: Sink, E: Sink>(
 ) -> u8
     requires apart { asked.output.now ≡ asked.certificate.now → ⊥ }
     ensures makes { MakesSmaller (writers_of S.Writer.held S.Writer.has_failed)
-        (asked_choice (text_of asked.entry.merge)) asked.entry.strict
+        (asked_choice (text_of asked.entry.merge) asked.entry.in_sets) asked.entry.strict
         (file_seen S.contents S.fails store.old asked.entry.schema.now)
         (file_seen S.contents S.fails store.old asked.entry.file.now)
         (written_at (file_seen S.contents S.fails store.old)
@@ -157,7 +174,7 @@ fn shrink_asked<'p, S: Store<'p>, O: Sink, E: Sink>(
         → (path ≡ asked.entry.certificate.now → ⊥)
         → S.contents store.new path ≡ S.contents store.old path }
 {
-    match chosen(alloc, asked.merge, asked.strict) {
+    match chosen(alloc, asked.merge, asked.in_sets, asked.strict) {
         Ok(choice) => shrink_by(alloc, keys, asked, &choice, store, out, err),
         Err(_) => report(FileFault::Memory, err),
     }
@@ -172,7 +189,7 @@ fn verify_asked<'p, S: Store<'p>, O: Sink, E: Sink>(
     out: &mut O,
     err: &mut E,
 ) -> u8
-    ensures verifies { RunsVerify (asked_choice (text_of asked.entry.merge))
+    ensures verifies { RunsVerify (asked_choice (text_of asked.entry.merge) asked.entry.in_sets)
         (file_seen S.contents S.fails store.old asked.entry.schema.now)
         (file_seen S.contents S.fails store.old asked.entry.file.now)
         (file_seen S.contents S.fails store.old asked.entry.output.now)
@@ -183,7 +200,7 @@ fn verify_asked<'p, S: Store<'p>, O: Sink, E: Sink>(
         (proof_opens asked.entry) (output_seen E.held E.has_failed err.old err.new) result }
     ensures kept { (path : List ℕ) → S.contents store.new path ≡ S.contents store.old path }
 {
-    let choice = match chosen(alloc, asked.merge, false) {
+    let choice = match chosen(alloc, asked.merge, asked.in_sets, false) {
         Ok(choice) => choice,
         Err(_) => return report(FileFault::Memory, err),
     };

@@ -2,7 +2,7 @@
 use Rattle.std.proofs.Common.{◌≡◌, ℕ, suc, Bool, true, refl, sym, ◌∙◌, ap, subst, ◌⊎◌, inl, inr, eqb-true, eq-eqb, List, Some}
 use Rattle.std.specs.Prelude.{◌==◌}
 use Rattle.step_values.specs.Leaves.{unset}
-use Rattle.step_values.specs.Values.{Value, leaf, reference, typed, sequence, bag, Values, none, more, IsReordering, unchanged, kept, swapped, joined, Agree, AgreeEach}
+use Rattle.step_values.specs.Values.{Value, leaf, reference, typed, sequence, bag, Values, none, more, is_crowd, IsReordering, unchanged, kept, swapped, joined, Agree, AgreeEach}
 use Rattle.step_values.specs.References.{renamed, renamed_each, EachReference, EachReferenceOf}
 use Rattle.step_values.specs.AgreementTests.{value_count}
 use Rattle.step_values.proofs.Agreement.{agree_trans, agree_back, eqb_sym, eqb_trans}
@@ -76,6 +76,16 @@ distinct_carried h (more v vs) (more w ws) g d es = (
 )
 distinct_carried h none (more x xs) g d es = absurd es
 distinct_carried h (more u us) none g d es = absurd es
+
+-- nothing is beside the value of a bag of one
+distinct_in_bag : (h : ℕ → ℕ) (vs ws : Values) → (is_crowd vs ≡ true → IsOneToOne h vs) → AllDiffer vs
+    → AgreeEach (◌==◌) (renamed_each h vs) ws → AllDiffer ws
+distinct_in_bag h none none g d es = tt
+distinct_in_bag h none (more w ws) g d es = absurd es
+distinct_in_bag h (more v none) none g d es = absurd es
+distinct_in_bag h (more v none) (more w none) g d es = (tt, tt)
+distinct_in_bag h (more v none) (more w (more x ws)) g d es = absurd es.1
+distinct_in_bag h (more v (more u vs)) ws g d es = distinct_carried h (more v (more u vs)) ws (g refl) d es
 
 sizes_alike : (h : ℕ → ℕ) (vs ws : Values) → AgreeEach (◌==◌) (renamed_each h vs) ws → value_count vs ≡ value_count ws
 sizes_alike h none none es = refl
@@ -161,7 +171,7 @@ module _ (s : Schema) (d : Domain) (before after : Typing) (h : ℕ → ℕ)
           bounds = subst (λ n. in_bounds f.of n ≡ true) (sizes_alike h vs m.0 m.2 ∙ size_reordered m.1) f.bounds;
           each = each_reordered s d after f.of.optional (base d f.of.element) m.1
               (each_carried f.of.optional (base d f.of.element) vs m.0 f.each apart.1 m.2);
-          unique = λ u. distinct_reordered m.1 (distinct_carried h vs m.0 (apart.0 u) (f.unique u) m.2);
+          unique = λ u. distinct_reordered m.1 (distinct_in_bag h vs m.0 (apart.0 u) (f.unique u) m.2);
         }
     fits_carried b v w f g e = absurd e
 

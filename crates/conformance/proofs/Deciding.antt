@@ -1,17 +1,18 @@
 -- Pins are decided.
-use Rattle.std.specs.Prelude.{◌≡◌, ◌≢◌, ℕ, Bool, IsTrue, true, false, List, Option, Some, None, ◌⊎◌}
+use Rattle.std.specs.Prelude.{◌≡◌, ◌≢◌, ℕ, Bool, IsTrue, true, false, cond, List, Option, Some, None, ◌⊎◌}
 use Rattle.std.proofs.Common.{refl, sym, ap, subst, inl, inr}
 use Rattle.std.proofs.lemmas.Bool.{both_ways}
 use Rattle.step_values.specs.Values.{Value, leaf, reference, typed, sequence, bag, Values, none, more}
 use Rattle.express_syntax.specs.Schemas.{Schema, DataType}
 use Rattle.schema_semantics.specs.Names.{Name, OneOf}
 use Rattle.schema_semantics.specs.Attributes.{Place}
+use Rattle.conformance.specs.Choices.{Mergeable}
 use Rattle.conformance.specs.Bases.{Aggregate, Base, integer, number, boolean, logical, string, binary, enumeration, entity, select, aggregate, Domain, base}
 use Rattle.conformance.specs.ParameterFits.{inner, is_listed}
 use Rattle.conformance.specs.Entities.{Entities, data_types, is_leaf}
 use Rattle.conformance.specs.Populations.{Slot, Instance, slot_at, types_at}
 use Rattle.conformance.specs.SeparatingMaps.{Occurs, OccursIn}
-use Rattle.conformance.specs.CollectionMembers.{InBag, InBagOf, StandsInBag}
+use Rattle.conformance.specs.CollectionMembers.{pins_members, InBag, InBagOf, StandsInBag}
 use Rattle.conformance.specs.Rules.{UniqueRule, InverseAttribute, Rules}
 use Rattle.conformance.specs.Elements.{AnElement, IsReferenceTo, StandsWithin, IsAnotherOfClass, HasUnique, HasUniqueAmong, HasUniqueValue}
 use Rattle.conformance.specs.Pins.{HasUnchosenLeaf, OccursAt, IsInKey, RefersByInverse, IsInverseSide, StandsInsideUnique, StandsBesideItsClass, IsPinnedElsewhere, IsWeaklyPinned, IsGentlyPinned}
@@ -30,17 +31,23 @@ abbrev mutual
   occurs_in_decided y none = inr (λ h. h)
   occurs_in_decided y (more v vs) = either_decided (occurs_decided y v) (occurs_in_decided y vs)
 
-abbrev mutual
-  in_bag_decided : (y : ℕ) (v : Value) → Decided (InBag y v)
-  in_bag_decided y (leaf a) = inr (λ h. h)
-  in_bag_decided y (reference z) = inr (λ h. h)
-  in_bag_decided y (typed n v) = in_bag_decided y v
-  in_bag_decided y (sequence vs) = in_bags_decided y vs
-  in_bag_decided y (bag vs) = occurs_in_decided y vs
+abbrev asked_decided : {A B : Type 0} (b : Bool) → Decided A → Decided B → Decided (cond b A B)
+asked_decided true f g = f
+asked_decided false f g = g
 
-  in_bags_decided : (y : ℕ) (vs : Values) → Decided (InBagOf y vs)
-  in_bags_decided y none = inr (λ h. h)
-  in_bags_decided y (more v vs) = either_decided (in_bag_decided y v) (in_bags_decided y vs)
+module _ (in_sets : Bool) where
+  abbrev mutual
+    in_bag_decided : (y : ℕ) (v : Value) → Decided (InBag in_sets y v)
+    in_bag_decided y (leaf a) = inr (λ h. h)
+    in_bag_decided y (reference z) = inr (λ h. h)
+    in_bag_decided y (typed n v) = in_bag_decided y v
+    in_bag_decided y (sequence vs) = in_bags_decided y vs
+    in_bag_decided y (bag vs) =
+        asked_decided (pins_members in_sets vs) (occurs_in_decided y vs) (in_bags_decided y vs)
+
+    in_bags_decided : (y : ℕ) (vs : Values) → Decided (InBagOf in_sets y vs)
+    in_bags_decided y none = inr (λ h. h)
+    in_bags_decided y (more v vs) = either_decided (in_bag_decided y v) (in_bags_decided y vs)
 
 abbrev within_decided : (y : ℕ) (v : Value) → Decided (StandsWithin y v)
 within_decided y (leaf a) = inr (λ h. h)
@@ -190,9 +197,9 @@ side_decided is y i =
     (either_decided (same_decided x.name y) (same_decided z.name y))) is) is
 
 module _ (s : Schema) (d : Domain) (en : Entities) (y : ℕ) where
-  abbrev stands_in_bag_decided : (i : Instance) → Decided (StandsInBag s d en y i)
-  stands_in_bag_decided i =
-      one_decided (λ (x : Slot). InBag y x.value) (λ (x : Slot). in_bag_decided y x.value) i.slots
+  abbrev stands_in_bag_decided : (in_sets : Bool) (i : Instance) → Decided (StandsInBag s d en in_sets y i)
+  stands_in_bag_decided in_sets i =
+      one_decided (λ (x : Slot). InBag in_sets y x.value) (λ (x : Slot). in_bag_decided in_sets y x.value) i.slots
 
   abbrev inside_decided : (i : Instance) → Decided (StandsInsideUnique s d en y i)
   inside_decided i =
@@ -209,11 +216,11 @@ module _ (s : Schema) (d : Domain) (en : Entities) (y : ℕ) where
       one_decided (λ e. IsTrue (is_leaf s en types e) × (is_listed e chosen ≡ false))
       (λ e. both_decided (true_decided (is_leaf s en types e)) (false_decided (is_listed e chosen))) types
 
-module _ (s : Schema) (d : Domain) (en : Entities) (rules : Rules) (chosen : List Name) (is : List Instance) where
+module _ (s : Schema) (d : Domain) (en : Entities) (rules : Rules) (chosen : Mergeable) (is : List Instance) where
   abbrev elsewhere_decided : (y : ℕ) → Decided (IsPinnedElsewhere s d en rules chosen is y)
   elsewhere_decided y =
-      either_decided (leaf_decided s d en y chosen (types_at is y))
-      (either_decided (one_decided (StandsInBag s d en y) (stands_in_bag_decided s d en y) is)
+      either_decided (leaf_decided s d en y chosen.entities (types_at is y))
+      (either_decided (one_decided (StandsInBag s d en chosen.in_sets y) (stands_in_bag_decided s d en y chosen.in_sets) is)
       (either_decided (one_decided (IsInKey is y) (key_decided y is) rules.uniques)
       (one_decided (IsInverseSide is y) (side_decided is y) rules.inverses)))
 

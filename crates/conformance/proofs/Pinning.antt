@@ -26,9 +26,9 @@ gentle_pins_are_plain s d en rules chosen is E y (inr h) = inr (some_other (besi
 
 pub bag_references_are_pinned : BagReferencesArePinned
 bag_references_are_pinned s d en rules chosen is pinned f i m x n =
-    bags_held (λ y. pinned y ≡ true) x.value
-    (λ y h. f y (inl (inr (inl (one_is (StandsInBag s d en y) i is m
-    (one_is (λ (z : Slot). InBag y z.value) x i.slots n h))))))
+    bags_held (λ y. pinned y ≡ true) chosen.in_sets x.value
+    (λ y h. f y (inl (inr (inl (one_is (StandsInBag s d en chosen.in_sets y) i is m
+    (one_is (λ (z : Slot). InBag chosen.in_sets y z.value) x i.slots n h))))))
 
 pub elements_are_told_apart : ElementsAreToldApart
 elements_are_told_apart s d en rules chosen is E R pinned rows gentle keeps within y z together related =

@@ -13,7 +13,8 @@ use Rattle.conformance.specs.Populations.{Instance}
 use Rattle.conformance.specs.Rules.{alone, in_set, in_bag, InverseAttribute, Rules, UniquenessStatement, statements_from}
 use Rattle.conformance.specs.Referrers.{inverse_value, inverse_of}
 use Rattle.conformance.specs.RuleFindings.{Breach, unique_findings, inverse_findings}
-use Rattle.conformance.specs.Choices.{usual, given, chosen_names, unknown_choice}
+use Rattle.conformance.specs.Choices.{usual, given, chosen_names, unknown_name}
+use Rattle.conformance.specs.ParameterFits.{entity_names}
 use Rattle.conformance.specs.RuleLaws.{names}
 use Rattle.conformance.proofs.Decided.{test}
 use Rattle.conformance.proofs.Deciding.{weak_decided, gentle_decided}
@@ -156,11 +157,18 @@ labels = refl
 
 -- The names that are pinned.
 module _ (en : Entities) (rules : Rules) (chosen : List Name) (is : List Instance) where
+  abbrev weak_if : Bool → List ℕ
+  weak_if in_sets =
+      filter (λ y. test (weak_decided geo geo_domain en rules (record { entities = chosen; in_sets = in_sets }) is y))
+      (names is)
+
   abbrev weak_by : List ℕ
-  weak_by = filter (λ y. test (weak_decided geo geo_domain en rules chosen is y)) (names is)
+  weak_by = weak_if false
 
   abbrev gentle_by : (ℕ → ℕ → Bool) → List ℕ
-  gentle_by E = filter (λ y. test (gentle_decided geo geo_domain en rules chosen is E y)) (names is)
+  gentle_by E =
+      filter (λ y. test (gentle_decided geo geo_domain en rules (record { entities = chosen; in_sets = false }) is E y))
+      (names is)
 
 abbrev weak : List Name → List Instance → List ℕ
 weak = weak_by geo_entities geo_rules
@@ -184,6 +192,19 @@ bundles = a_node 1 1 ∷ a_node 2 2 ∷ a_bundle 3 (1 ∷ 2 ∷ []) ∷ a_bundle
 
 members : weak (NODE ∷ BUNDLE ∷ []) bundles ≡ 1 ∷ 2 ∷ []
 members = refl
+
+-- alone in a SET: pinned, unless what stands alone may be merged
+abbrev bundles_of_one : List Instance
+bundles_of_one = a_node 1 1 ∷ a_node 2 2 ∷ a_bundle 3 (1 ∷ []) ∷ a_bundle 4 (2 ∷ []) ∷ []
+
+sole_members : weak (NODE ∷ BUNDLE ∷ []) bundles_of_one ≡ 1 ∷ 2 ∷ []
+sole_members = refl
+
+sole_members_in_sets : weak_if geo_entities geo_rules (NODE ∷ BUNDLE ∷ []) bundles_of_one true ≡ []
+sole_members_in_sets = refl
+
+members_in_sets : weak_if geo_entities geo_rules (NODE ∷ BUNDLE ∷ []) bundles true ≡ 1 ∷ 2 ∷ []
+members_in_sets = refl
 
 unchosen : weak (BUNDLE ∷ []) bundles ≡ 1 ∷ 2 ∷ []
 unchosen = refl
@@ -219,6 +240,15 @@ value_of_a_key_set_aside = refl
 in_a_set_in_a_list : weak (POINT ∷ NOTE ∷ []) (a_point 1 0 ∷ a_point 2 0 ∷ a_point 3 0
     ∷ a_note 4 (sequence (more (reference 3) (more (values.bag (references (1 ∷ 2 ∷ []))) none))) ∷ []) ≡ 1 ∷ 2 ∷ []
 in_a_set_in_a_list = refl
+
+-- a SET of two inside a SET of one
+abbrev a_set_in_a_set : List Instance
+a_set_in_a_set =
+    a_point 1 0 ∷ a_point 2 0
+    ∷ a_note 3 (values.bag (more (values.bag (references (1 ∷ 2 ∷ []))) none)) ∷ []
+
+in_a_set_in_a_set : weak_if geo_entities geo_rules (POINT ∷ NOTE ∷ []) a_set_in_a_set true ≡ 1 ∷ 2 ∷ []
+in_a_set_in_a_set = refl
 
 -- notes are inverted of placements alone
 a_note_on_a_point : weak (POINT ∷ NOTE ∷ []) (a_point 1 0 ∷ a_note 2 (reference 1) ∷ []) ≡ []
@@ -290,8 +320,17 @@ chosen_usually = refl
 chosen_by_name : chosen_names geo (given (codes "point" ∷ codes "Loop" ∷ [])) ≡ POINT ∷ LOOP ∷ []
 chosen_by_name = refl
 
-all_known : unknown_choice geo (given (codes "point" ∷ codes "Loop" ∷ [])) ≡ None
+chosen_by_preset : chosen_names geo (given (codes "point" ∷ codes "@Points" ∷ [])) ≡ POINT ∷ DIRECTION ∷ []
+chosen_by_preset = refl
+
+all_chosen : chosen_names geo (given (codes "@all" ∷ [])) ≡ entity_names geo
+all_chosen = refl
+
+all_known : unknown_name geo (given (codes "point" ∷ codes "@styles" ∷ codes "Loop" ∷ [])) ≡ None
 all_known = refl
 
-first_unknown : unknown_choice geo (given (codes "point" ∷ codes "circle" ∷ codes "x" ∷ [])) ≡ Some (codes "CIRCLE")
+first_unknown : unknown_name geo (given (codes "point" ∷ codes "circle" ∷ codes "x" ∷ [])) ≡ Some (codes "CIRCLE")
 first_unknown = refl
+
+unknown_preset : unknown_name geo (given (codes "@lines" ∷ [])) ≡ Some (codes "@LINES")
+unknown_preset = refl

@@ -1,9 +1,9 @@
 -- What stands in values OF UNIQUE, and in SETs and BAGs.
-use Rattle.std.specs.Prelude.{◌≡◌, ◌≢◌, ℕ, Bool, true, List, [], ◌∷◌, ◌⊎◌}
+use Rattle.std.specs.Prelude.{◌≡◌, ◌≢◌, ℕ, Bool, true, false, not, ◌||◌, cond, List, [], ◌∷◌, ◌⊎◌}
 use Rattle.std.proofs.Common.{refl, sym, subst, inl, inr}
-use Rattle.step_values.specs.Values.{Value, leaf, reference, typed, sequence, bag, Values, none, more}
+use Rattle.step_values.specs.Values.{Value, leaf, reference, typed, sequence, bag, Values, none, more, is_crowd}
 use Rattle.step_values.specs.References.{EachReference, EachReferenceOf, EachBagReference, EachBagReferenceOf}
-use Rattle.step_values.proofs.References.{each_in_bag}
+use Rattle.step_values.proofs.References.{each_in_bag_of}
 use Rattle.express_syntax.specs.Schemas.{Schema, DataType}
 use Rattle.schema_semantics.specs.Names.{OneOf, Among}
 use Rattle.conformance.specs.Bases.{Base, Domain, base}
@@ -143,14 +143,27 @@ module _ (P : ℕ → Type 0) where
     each_held_of none f = tt
     each_held_of (more v vs) f = (each_held v (λ y h. f y (inl h)), each_held_of vs (λ y h. f y (inr h)))
 
-  mutual
-    pub bags_held : (v : Value) → ((y : ℕ) → InBag y v → P y) → EachBagReference P v
-    bags_held (leaf a) f = tt
-    bags_held (reference y) f = tt
-    bags_held (typed n v) f = bags_held v f
-    bags_held (sequence vs) f = bags_held_of vs f
-    bags_held (bag vs) f = each_in_bag P (bag vs) (each_held_of vs f)
+  -- what holds of all that a SET or BAG pins
+  of_bag : (vs : Values) → (B : ℕ → Type 0) → (EachReferenceOf P vs → EachBagReferenceOf P vs)
+      → (((y : ℕ) → B y → P y) → EachBagReferenceOf P vs) → (c crowd : Bool)
+      → ((y : ℕ) → cond (not c || crowd) (OccursIn y vs) (B y) → P y)
+      → cond crowd (EachReferenceOf P vs) (EachBagReferenceOf P vs)
+  of_bag vs B weaker inner true true f = each_held_of vs f
+  of_bag vs B weaker inner true false f = inner f
+  of_bag vs B weaker inner false true f = each_held_of vs f
+  of_bag vs B weaker inner false false f = weaker (each_held_of vs f)
 
-    bags_held_of : (vs : Values) → ((y : ℕ) → InBagOf y vs → P y) → EachBagReferenceOf P vs
-    bags_held_of none f = tt
-    bags_held_of (more v vs) f = (bags_held v (λ y h. f y (inl h)), bags_held_of vs (λ y h. f y (inr h)))
+  module _ (in_sets : Bool) where
+    mutual
+      pub bags_held : (v : Value) → ((y : ℕ) → InBag in_sets y v → P y) → EachBagReference P v
+      bags_held (leaf a) f = tt
+      bags_held (reference y) f = tt
+      bags_held (typed n v) f = bags_held v f
+      bags_held (sequence vs) f = bags_held_of vs f
+      bags_held (bag vs) f =
+          of_bag vs (λ y. InBagOf in_sets y vs) (λ h. each_in_bag_of P vs h) (λ g. bags_held_of vs g) in_sets
+          (is_crowd vs) f
+
+      bags_held_of : (vs : Values) → ((y : ℕ) → InBagOf in_sets y vs → P y) → EachBagReferenceOf P vs
+      bags_held_of none f = tt
+      bags_held_of (more v vs) f = (bags_held v (λ y h. f y (inl h)), bags_held_of vs (λ y h. f y (inr h)))

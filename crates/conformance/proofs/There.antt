@@ -1,7 +1,7 @@
 -- What is pinned is there.
-use Rattle.std.specs.Prelude.{◌≡◌, ℕ, ◌==◌, Bool, IsTrue, true, false, cond, List, [], ◌∷◌, Some, ◌⊎◌}
+use Rattle.std.specs.Prelude.{◌≡◌, ℕ, ◌==◌, Bool, IsTrue, true, false, not, ◌||◌, cond, List, [], ◌∷◌, Some, ◌⊎◌}
 use Rattle.std.proofs.Common.{refl, subst, inl, inr, eqb-true}
-use Rattle.step_values.specs.Values.{Value, leaf, reference, typed, sequence, bag, Values, none, more}
+use Rattle.step_values.specs.Values.{Value, leaf, reference, typed, sequence, bag, Values, none, more, is_crowd}
 use Rattle.step_values.specs.References.{EachReference, EachReferenceOf}
 use Rattle.express_syntax.specs.Schemas.{Schema, DataType}
 use Rattle.express_syntax.specs.Profile.{Every}
@@ -13,26 +13,51 @@ use Rattle.conformance.specs.ParameterFits.{is_listed}
 use Rattle.conformance.specs.Entities.{Entities, data_types, is_leaf}
 use Rattle.conformance.specs.Populations.{Slot, Instance, slot_at, instance_at, types_in, types_at}
 use Rattle.conformance.specs.SeparatingMaps.{Occurs, OccursIn}
-use Rattle.conformance.specs.CollectionMembers.{InBag, InBagOf, InUnique, InUniqueOf, StandsInBag, StandsInUnique}
+use Rattle.conformance.specs.CollectionMembers.{pins_members, InBag, InBagOf, InUnique, InUniqueOf, StandsInBag, StandsInUnique}
 use Rattle.conformance.specs.Rules.{UniqueRule, InverseAttribute}
 use Rattle.conformance.specs.Pins.{OccursAt, IsInKey, RefersByInverse, IsInverseSide}
 use Rattle.conformance.specs.RuleLaws.{names, IsClosed, PinnedAreThere}
 use Rattle.conformance.proofs.Standing.{found}
 use Rattle.conformance.proofs.Holding.{named_at}
 
--- what stands in a SET or BAG stands in the value
-mutual
-  pub bag_occurs : (y : ℕ) (v : Value) → InBag y v → Occurs y v
-  bag_occurs y (leaf a) h = h
-  bag_occurs y (reference z) h = absurd h
-  bag_occurs y (typed n v) h = bag_occurs y v h
-  bag_occurs y (sequence vs) h = bag_occurs_in y vs h
-  bag_occurs y (bag vs) h = h
+-- what holds by either test holds by the first, if the second says more
+pub first_way : {A B : Type 0} (b : Bool) → (B → A) → cond b A B → A
+first_way true f h = h
+first_way false f h = f h
 
-  pub bag_occurs_in : (y : ℕ) (vs : Values) → InBagOf y vs → OccursIn y vs
-  bag_occurs_in y none h = h
-  bag_occurs_in y (more v vs) (inl h) = inl (bag_occurs y v h)
-  bag_occurs_in y (more v vs) (inr h) = inr (bag_occurs_in y vs h)
+-- what holds by the second test holds by the one that is asked
+pub asked_way : {A B : Type 0} (b : Bool) → (B → A) → B → cond b A B
+asked_way true f h = f h
+asked_way false f h = h
+
+-- what stands in a SET or BAG stands in the value
+module _ (in_sets : Bool) where
+  mutual
+    pub bag_occurs : (y : ℕ) (v : Value) → InBag in_sets y v → Occurs y v
+    bag_occurs y (leaf a) h = h
+    bag_occurs y (reference z) h = absurd h
+    bag_occurs y (typed n v) h = bag_occurs y v h
+    bag_occurs y (sequence vs) h = bag_occurs_in y vs h
+    bag_occurs y (bag vs) h = first_way (pins_members in_sets vs) (λ k. bag_occurs_in y vs k) h
+
+    pub bag_occurs_in : (y : ℕ) (vs : Values) → InBagOf in_sets y vs → OccursIn y vs
+    bag_occurs_in y none h = h
+    bag_occurs_in y (more v vs) (inl h) = inl (bag_occurs y v h)
+    bag_occurs_in y (more v vs) (inr h) = inr (bag_occurs_in y vs h)
+
+  -- what stands in a SET or BAG inside another one stands in that one
+  pub bag_inside : (y : ℕ) (vs : Values) → InBagOf in_sets y vs → InBag in_sets y (bag vs)
+  bag_inside y vs h = asked_way (pins_members in_sets vs) (λ k. bag_occurs_in y vs k) h
+
+-- what stands in a SET or BAG of more than one value stands in one that pins it
+pub crowd_pins : (in_sets : Bool) (y : ℕ) (vs : Values) → is_crowd vs ≡ true → OccursIn y vs
+    → InBag in_sets y (bag vs)
+crowd_pins in_sets y vs e h = by in_sets (is_crowd vs) e
+  where
+    by : (c b : Bool) → b ≡ true → cond (not c || b) (OccursIn y vs) (InBagOf in_sets y vs)
+    by true true k = h
+    by true false k = absurd (cc)
+    by false b k = h
 
 -- what holds of each reference holds of what stands in the value
 module _ (P : ℕ → Type 0) where
@@ -101,11 +126,12 @@ module _ (is : List Instance) (closed : IsClosed is) where
   name_there : (y : ℕ) (i : Instance) → Among i is → i.name ≡ y → Named y
   name_there y i m e = subst Named e (among-map (λ (j : Instance). j.name) i is m)
 
-  bag_named : (s : Schema) (d : Domain) (en : Entities) (y : ℕ) → OneOf (StandsInBag s d en y) is → Named y
-  bag_named s d en y h =
-      let i = found (StandsInBag s d en y) is h in
-      let x = found (λ (z : Slot). InBag y z.value) i.0.slots i.2 in
-      named y i.0 i.1 x.0 x.1 (bag_occurs y x.0.value x.2)
+  bag_named : (s : Schema) (d : Domain) (en : Entities) (in_sets : Bool) (y : ℕ)
+      → OneOf (StandsInBag s d en in_sets y) is → Named y
+  bag_named s d en in_sets y h =
+      let i = found (StandsInBag s d en in_sets y) is h in
+      let x = found (λ (z : Slot). InBag in_sets y z.value) i.0.slots i.2 in
+      named y i.0 i.1 x.0 x.1 (bag_occurs in_sets y x.0.value x.2)
 
   unique_named : (s : Schema) (d : Domain) (en : Entities) (y : ℕ) → OneOf (StandsInUnique s d en y) is → Named y
   unique_named s d en y h =
@@ -134,8 +160,8 @@ module _ (is : List Instance) (closed : IsClosed is) where
 
 pub pinned_are_there : PinnedAreThere
 pinned_are_there s d en rules chosen is closed y (inl (inl h)) =
-    type_named y is (λ e. IsTrue (is_leaf s en (types_at is y) e) × (is_listed e chosen ≡ false)) h
-pinned_are_there s d en rules chosen is closed y (inl (inr (inl h))) = bag_named is closed s d en y h
+    type_named y is (λ e. IsTrue (is_leaf s en (types_at is y) e) × (is_listed e chosen.entities ≡ false)) h
+pinned_are_there s d en rules chosen is closed y (inl (inr (inl h))) = bag_named is closed s d en chosen.in_sets y h
 pinned_are_there s d en rules chosen is closed y (inl (inr (inr (inl h)))) =
     let u = found (IsInKey is y) rules.uniques h in key_named is closed y u.0 u.2
 pinned_are_there s d en rules chosen is closed y (inl (inr (inr (inr h)))) =

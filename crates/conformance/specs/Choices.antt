@@ -1,29 +1,55 @@
--- The entities whose instances may be merged.
-use Rattle.std.specs.Prelude.{ℕ, not, List, [], ◌∷◌, map, filter, find, Option, None, codes}
+-- What may be merged: instances of chosen entities, and those that stand alone in a SET or BAG.
+use Rattle.std.specs.Prelude.{ℕ, Bool, not, ◌||◌, cond, List, [], ◌∷◌, ◌++◌, map, filter, find, flat_map, Option, Some, None, is_some, unwrap_or, codes, bytes_eq}
 use Rattle.step_literals.specs.Words.{upper}
 use Rattle.express_syntax.specs.Schemas.{Schema}
 use Rattle.schema_semantics.specs.Names.{Name}
-use Rattle.conformance.specs.ParameterFits.{is_entity}
+use Rattle.conformance.specs.ParameterFits.{entity_names, is_entity}
+use Rattle.conformance.specs.Presets.{usual_names, style_names, geometry_names}
 
--- The choice of these entities: the usual names, or given names in letters of any case.
-pub data Choice : Type 0 where
-  usual : Choice
-  given : List (List ℕ) → Choice
+-- The choice of these entities: the usual names, or given words.
+pub data ChosenNames : Type 0 where
+  usual : ChosenNames
+  given : List (List ℕ) → ChosenNames
 
--- The names of points, directions and placements in published schemas.
-abbrev pub usual_names : List Name
-usual_names =
-    map codes ("CARTESIAN_POINT" ∷ "DIRECTION" ∷ "VECTOR"
-    ∷ "AXIS1_PLACEMENT" ∷ "AXIS2_PLACEMENT_2D" ∷ "AXIS2_PLACEMENT_3D"
-    ∷ "IFCCARTESIANPOINT" ∷ "IFCDIRECTION" ∷ "IFCVECTOR"
-    ∷ "IFCAXIS1PLACEMENT" ∷ "IFCAXIS2PLACEMENT2D" ∷ "IFCAXIS2PLACEMENT3D" ∷ [])
+-- What a user chooses: entities, and whether what stands alone in a SET or BAG may be merged too.
+pub record Choice : Type 0 where
+  pub names : ChosenNames
+  pub in_sets : Bool
 
--- The chosen names, in capitals. Usual names that aren't entities of the schema are left out.
-abbrev pub chosen_names : Schema → Choice → List Name
-chosen_names s usual = filter (is_entity s) usual_names
-chosen_names s (given names) = map upper names
+-- The instances that may be merged: those of these entities. If `in_sets` is true, these may stand in
+-- a SET or BAG of one value.
+pub record Mergeable : Type 0 where
+  pub entities : List Name
+  pub in_sets : Bool
 
--- The first given name that isn't an entity of the schema, if any.
+-- The names that are entities of the schema.
+abbrev pub present : Schema → List Name → List Name
+present s names = filter (is_entity s) names
+
+-- The entities of a preset, if the word, in capitals, is one.
+abbrev pub preset : Schema → List ℕ → Option (List Name)
+preset s word =
+    cond (bytes_eq word (codes "@POINTS")) (Some (present s usual_names))
+    (cond (bytes_eq word (codes "@STYLES")) (Some (present s style_names))
+    (cond (bytes_eq word (codes "@GEOMETRY")) (Some (present s (usual_names ++ geometry_names)))
+    (cond (bytes_eq word (codes "@ALL")) (Some (entity_names s)) None)))
+
+-- The names that a word, in capitals, chooses: those of the preset, or itself.
+abbrev pub names_by : Schema → List ℕ → List Name
+names_by s word = unwrap_or (preset s word) (word ∷ [])
+
+-- The chosen names, in capitals. Names of presets that aren't entities of the schema are left out.
+abbrev pub chosen_names : Schema → ChosenNames → List Name
+chosen_names s usual = present s usual_names
+chosen_names s (given words) = flat_map (names_by s) (map upper words)
+
+-- The first given word that is neither a preset nor an entity of the schema, if any.
+abbrev pub unknown_name : Schema → ChosenNames → Option Name
+unknown_name s usual = None
+unknown_name s (given words) = find (λ n. not (is_some (preset s n) || is_entity s n)) (map upper words)
+
 abbrev pub unknown_choice : Schema → Choice → Option Name
-unknown_choice s usual = None
-unknown_choice s (given names) = find (λ n. not (is_entity s n)) (map upper names)
+unknown_choice s choice = unknown_name s choice.names
+
+abbrev pub mergeable : Schema → Choice → Mergeable
+mergeable s choice = record { entities = chosen_names s choice.names; in_sets = choice.in_sets }

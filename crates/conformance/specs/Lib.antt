@@ -19,6 +19,7 @@ pub mod RuleFindings
 pub mod Elements
 pub mod Pins
 pub mod Choices
+pub mod Presets
 pub mod RuleLaws
 pub mod Values
 pub mod Operations

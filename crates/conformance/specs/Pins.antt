@@ -4,6 +4,7 @@ use Rattle.step_values.specs.Values.{Value}
 use Rattle.express_syntax.specs.Schemas.{Schema}
 use Rattle.schema_semantics.specs.Names.{Name, OneOf}
 use Rattle.schema_semantics.specs.Attributes.{Place}
+use Rattle.conformance.specs.Choices.{Mergeable}
 use Rattle.conformance.specs.Bases.{Domain}
 use Rattle.conformance.specs.ParameterFits.{is_listed}
 use Rattle.conformance.specs.Entities.{Entities, is_leaf}
@@ -58,14 +59,14 @@ module _ (s : Schema) (d : Domain) (en : Entities) where
   abbrev pub StandTogether : ℕ → ℕ → Instance → Type 0
   StandTogether y z i = HasUniqueValue s d en (λ vs. AnElement (IsReferenceTo y) vs × AnElement (IsReferenceTo z) vs) i
 
-  module _ (rules : Rules) (chosen : List Name) (is : List Instance) where
+  module _ (rules : Rules) (chosen : Mergeable) (is : List Instance) where
     -- A rule that doesn't concern the elements of a LIST or ARRAY OF UNIQUE pins `y`. One of its
-    -- types that has no subtype among them isn't chosen; or `y` occurs in a SET or BAG; or a
-    -- uniqueness rule concerns it; or it is on a side of an inverse attribute.
+    -- types that has no subtype among them isn't chosen; or `y` occurs in a SET or BAG that pins it;
+    -- or a uniqueness rule concerns it; or it is on a side of an inverse attribute.
     abbrev pub IsPinnedElsewhere : ℕ → Type 0
     IsPinnedElsewhere y =
-        HasUnchosenLeaf s en chosen (types_at is y)
-        ⊎ (OneOf (StandsInBag s d en y) is
+        HasUnchosenLeaf s en chosen.entities (types_at is y)
+        ⊎ (OneOf (StandsInBag s d en chosen.in_sets y) is
         ⊎ (OneOf (IsInKey is y) rules.uniques ⊎ OneOf (IsInverseSide is y) rules.inverses))
 
     -- The weak rules pin `y`.

@@ -29,12 +29,12 @@ NoFindingsExactlyWhereItConforms = (s : Schema) (d : Domain) (en : Entities) →
     ↔ ((is_of_schema s f ≡ true) × Every (IsRowSpelt s d en) (rows_of f.sections)
     × PopulationConforms s d en (population_of s d en f))
 
--- If the instances that occur in SETs, BAGs, or what is OF UNIQUE among the values of `i` are
--- pinned, a map that maps no two pinned instances to one keeps the elements of these values apart.
+-- If the instances that occur in SETs and BAGs that pin them, or in what is OF UNIQUE, among the
+-- values of `i` are pinned, a map that maps no two pinned instances to one keeps the elements of these values apart.
 abbrev pub KeepsApartWhatStandsTogether : Type 0
 KeepsApartWhatStandsTogether = (s : Schema) (d : Domain) (en : Entities) (h : ℕ → ℕ) (pinned : ℕ → Bool)
-    → ((y z : ℕ) → IsTrue (pinned y) → IsTrue (pinned z) → h y ≡ h z → y ≡ z) → (i : Instance)
-    → ((y : ℕ) → StandsInBag s d en y i → IsTrue (pinned y))
+    (in_sets : Bool) → ((y z : ℕ) → IsTrue (pinned y) → IsTrue (pinned z) → h y ≡ h z → y ≡ z) → (i : Instance)
+    → ((y : ℕ) → StandsInBag s d en in_sets y i → IsTrue (pinned y))
     → ((y : ℕ) → StandsInUnique s d en y i → IsTrue (pinned y)) → KeepsInstanceApart s d en h i
 
 -- If a population conforms, so does each image of it.

@@ -7,7 +7,7 @@ use Rattle.step_structures.specs.Fits.{the_rules, FitsFile}
 use Rattle.value_equality.specs.Rows as rows
 use Rattle.value_equality.specs.Rows.{Row, IsPopulation, BagsArePinned}
 use Rattle.express_syntax.specs.Schemas.{Schema}
-use Rattle.schema_semantics.specs.Names.{Name}
+use Rattle.conformance.specs.Choices.{Mergeable}
 use Rattle.conformance.specs.Bases.{Domain}
 use Rattle.conformance.specs.Entities.{Entities, AreEntities}
 use Rattle.conformance.specs.Findings.{findings}
@@ -33,7 +33,7 @@ FilesNameInstances = (s : Schema) (d : Domain) (en : Entities) (f : File)
 -- Each reference in a SET or BAG of more than one value, at any depth of a row, names a pinned
 -- instance, if at least the weak pins are pinned.
 abbrev pub BagsOfRowsArePinned : Type 0
-BagsOfRowsArePinned = (s : Schema) (d : Domain) (en : Entities) (rules : Rules) (chosen : List Name)
+BagsOfRowsArePinned = (s : Schema) (d : Domain) (en : Entities) (rules : Rules) (chosen : Mergeable)
     (is : List Instance) (P : List Row) (pinned : ℕ → Bool) → AreRowsOf s is P
     → ((y : ℕ) → IsWeaklyPinned s d en rules chosen is y → IsTrue (pinned y)) → BagsArePinned P pinned
 

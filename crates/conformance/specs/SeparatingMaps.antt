@@ -1,6 +1,6 @@
 -- Maps of names that keep the elements of SETs, and of what is OF UNIQUE, apart.
 use Rattle.std.specs.Prelude.{◌≡◌, ⊤, ℕ, true, Some, ◌⊎◌}
-use Rattle.step_values.specs.Values.{Value, leaf, reference, typed, sequence, bag, Values, none, more}
+use Rattle.step_values.specs.Values.{Value, leaf, reference, typed, sequence, bag, Values, none, more, is_crowd}
 use Rattle.express_syntax.specs.Schemas.{Schema}
 use Rattle.conformance.specs.Bases.{Aggregate, Base, aggregate, Domain, base}
 use Rattle.conformance.specs.ParameterFits.{inner}
@@ -23,8 +23,8 @@ abbrev pub IsOneToOne : (ℕ → ℕ) → Values → Type 0
 IsOneToOne h vs = (y z : ℕ) → OccursIn y vs → OccursIn z vs → h y ≡ h z → y ≡ z
 
 module _ (s : Schema) (d : Domain) (h : ℕ → ℕ) where
-  -- `h` maps no two instances to which one SET, or one aggregate OF UNIQUE, refers to the same
-  -- name.
+  -- `h` maps no two instances to which one SET of more than one value, or one LIST or ARRAY OF
+  -- UNIQUE, refers to the same name.
   abbrev mutual
     pub KeepsApart : Base → Value → Type 0
     KeepsApart b (leaf a) = ⊤
@@ -33,7 +33,7 @@ module _ (s : Schema) (d : Domain) (h : ℕ → ℕ) where
     KeepsApart b (sequence vs) = (a : Aggregate) → b ≡ aggregate a
         → (a.unique ≡ true → IsOneToOne h vs) × KeepEachApart (base d a.element) vs
     KeepsApart b (bag vs) = (a : Aggregate) → b ≡ aggregate a
-        → (a.unique ≡ true → IsOneToOne h vs) × KeepEachApart (base d a.element) vs
+        → (a.unique ≡ true → is_crowd vs ≡ true → IsOneToOne h vs) × KeepEachApart (base d a.element) vs
 
     pub KeepEachApart : Base → Values → Type 0
     KeepEachApart b none = ⊤

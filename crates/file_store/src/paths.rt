@@ -1,11 +1,12 @@
 //! Files of the file system, by path.
 
+use crate::links::follow_links;
 use crate::read_files::{FileOpener, Unopened};
-use crate::replacement::Replacement;
+use crate::replacement::{Replacement, create_new};
 use crate::written_files::{FileMaker, Making};
 use devices::device::WriteFault;
 use std::alloc::Global;
-use std::fs::{OpenFile, OpenOptions};
+use std::fs::{File, OpenOptions};
 use std::io::ErrorKind;
 use std::rt::Files;
 use std::{fs, io};
@@ -31,17 +32,24 @@ impl<'p, R: Files> FileOpener for PathOpener<'p, R> {
     }
 }
 
+/// The number of times that a file is opened or created anew because another program creates or
+/// replaces it meanwhile.
+const ATTEMPTS: u32 = 100;
+
+/// The permissions of a new file, less those that the process takes away (`umask`).
+const PERMISSIONS: u32 = 0o666;
+
 /// Creates the file at a path to write it. If a regular file is there, another one is created
 /// beside it, which replaces it in the end. Anything else is opened and written in place.
 #[derive(Drop)]
-pub struct PathMaker<'p, R: Files> {
+pub struct PathMaker<'p, R: Files<File = File>> {
     alloc: Global,
     rt: &'p R,
     path: &'p str,
-    replacement: Option<Replacement>,
+    pub(crate) replacement: Option<Replacement>,
 }
 
-impl<'p, R: Files> PathMaker<'p, R> {
+impl<'p, R: Files<File = File>> PathMaker<'p, R> {
     /// Returns the maker of the file at this path.
     pub(crate) fn new(alloc: Global, rt: &'p R, path: &'p str) -> PathMaker<'p, R> {
         PathMaker {
@@ -53,29 +61,60 @@ impl<'p, R: Files> PathMaker<'p, R> {
     }
 
     /// Creates the new file beside the one at the path, if that is a regular file; otherwise
-    /// returns `standing`.
-    fn replacing(&mut self, standing: R::File) -> io::Result<R::File> {
+    /// returns `standing`. Returns `None` if the path leads to another file by now.
+    fn replacing(&mut self, standing: File) -> io::Result<Option<File>> {
         let metadata = standing.metadata()?;
         if !metadata.is_file() {
-            return Ok(standing);
+            return Ok(Some(standing));
         }
-        let permissions = metadata.permissions();
-        let (file, replacement) = Replacement::make(self.alloc, self.rt, self.path, permissions)?;
-        self.replacement = Some(replacement);
-        Ok(file)
+        match Replacement::make(self.alloc, self.rt, self.path, &metadata)? {
+            Some((file, replacement)) => {
+                self.replacement = Some(replacement);
+                Ok(Some(file))
+            }
+            None => Ok(None),
+        }
+    }
+
+    /// Creates the file at the path, or at the end of the links there. Returns `None` if there is a
+    /// file by now.
+    fn create(&self) -> io::Result<Option<File>> {
+        let created = create_new(self.rt, self.path, PERMISSIONS)?;
+        if created.is_some() {
+            return Ok(created);
+        }
+        let reached = follow_links(self.alloc, self.rt, self.path)?;
+        create_new(self.rt, reached.as_str(), PERMISSIONS)
+    }
+
+    /// Opens or creates the file that is written, once. Returns `None` if another program creates or
+    /// replaces the file at the path meanwhile. Opens the old file first: a file that may not be
+    /// written isn't replaced.
+    fn attempt(&mut self) -> io::Result<Option<File>> {
+        match OpenOptions::new().write(true).open(self.rt, self.path) {
+            Ok(standing) => self.replacing(standing),
+            Err(error) if error.kind() == ErrorKind::NotFound => self.create(),
+            Err(error) => Err(error),
+        }
     }
 }
 
-impl<'p, R: Files> FileMaker for PathMaker<'p, R> {
-    type File = R::File;
+impl<'p, R: Files<File = File>> FileMaker for PathMaker<'p, R> {
+    type File = File;
 
-    /// Opens the old file first: a file that may not be written isn't replaced.
-    fn make(&mut self) -> io::Result<R::File> {
-        match OpenOptions::new().write(true).open(self.rt, self.path) {
-            Ok(standing) => self.replacing(standing),
-            Err(error) if error.kind() == ErrorKind::NotFound => fs::create(self.rt, self.path),
-            Err(error) => Err(error),
+    /// Creates the file that is written, or opens it if it is written in place.
+    ///
+    /// # Errors
+    /// - `AlreadyExists` if other programs create or replace the file a hundred times meanwhile;
+    /// - another error if the file can't be opened or created, or if the new file can't have the
+    ///   owner, the group and the permissions of the old one.
+    fn make(&mut self) -> io::Result<File> {
+        for _ in 0..ATTEMPTS {
+            if let Some(file) = self.attempt()? {
+                return Ok(file);
+            }
         }
+        Err(io::Error::from(ErrorKind::AlreadyExists))
     }
 }
 
@@ -83,7 +122,9 @@ impl<'p, R: Files> FileMaker for PathMaker<'p, R> {
 ///
 /// # Errors
 /// - `WriteFault` if the file can't be synced.
-pub(crate) fn sync<R: Files>(making: &Making<PathMaker<'_, R>>) -> Result<(), WriteFault> {
+pub(crate) fn sync<R: Files<File = File>>(
+    making: &Making<PathMaker<'_, R>>,
+) -> Result<(), WriteFault> {
     let (Some(_), Some(file)) = (&making.maker.replacement, &making.file) else {
         return Ok(());
     };
@@ -99,7 +140,9 @@ pub(crate) fn sync<R: Files>(making: &Making<PathMaker<'_, R>>) -> Result<(), Wr
 ///
 /// # Errors
 /// - `WriteFault` if the file can't be renamed; the old one stays.
-pub(crate) fn take_place<R: Files>(making: Making<PathMaker<'_, R>>) -> Result<(), WriteFault> {
+pub(crate) fn take_place<R: Files<File = File>>(
+    making: Making<PathMaker<'_, R>>,
+) -> Result<(), WriteFault> {
     let Making { maker, written, .. } = making;
     let PathMaker {
         rt,
@@ -116,7 +159,7 @@ pub(crate) fn take_place<R: Files>(making: Making<PathMaker<'_, R>>) -> Result<(
 }
 
 /// Removes a written file that was to replace an old one.
-pub(crate) fn remove<R: Files>(making: Making<PathMaker<'_, R>>) {
+pub(crate) fn remove<R: Files<File = File>>(making: Making<PathMaker<'_, R>>) {
     let Making { maker, .. } = making;
     let PathMaker {
         rt,

@@ -1,7 +1,7 @@
 //! Choices of entities by name, and the chosen entities of a schema.
 
 ghost use Rattle.std.specs.Prelude.{◌≡◌, None, MatchResult};
-ghost use Rattle.conformance.specs.Choices.{unknown_choice, chosen_names};
+ghost use Rattle.conformance.specs.Choices.{unknown_choice, mergeable};
 ghost use Rattle.schema_names.specs.Schemas.{the_schema};
 ghost use Rattle.merge_choices.specs.ChosenEntities.{choice_of, is_chosen, AreChosen, AreOfEntities, IsChoiceFault};
 
@@ -11,12 +11,13 @@ use express_syntax::fault::SchemaFault;
 use schema_types::types::ResolvedTypes;
 use std::alloc::Global;
 
-/// Names of entities.
+/// The entities whose instances may be merged.
 #[derive(Drop)]
 pub enum Names {
     /// The points, directions and placements of published schemas, as far as a schema has them.
     Usual,
-    /// These names, regardless of case.
+    /// Those of these words, regardless of case: each is a preset, such as `@styles`, or the name of
+    /// an entity.
     Given(Vec<String>),
 }
 
@@ -25,26 +26,31 @@ pub enum Names {
 pub struct Choice {
     /// The entities whose instances may be merged.
     pub names: Names,
+    /// Whether an instance may be merged that stands alone in a SET or BAG.
+    pub in_sets: bool,
     /// Whether a schema with unchecked parts is refused.
     pub strict: bool,
 }
 
-/// The entities that a choice names, by the numbers of their declarations.
+/// The entities that a choice names, by the numbers of their declarations, and what it says of SETs
+/// and BAGs.
 #[derive(Drop)]
 pub struct Chosen {
+    /// Whether an instance may be merged that stands alone in a SET or BAG.
+    pub in_sets: bool,
     /// By declaration, whether it is a chosen entity.
     pub(crate) marks: Vec<bool>,
 }
 
 impl Choice {
-    /// Returns the entities of a schema that this choice names. Usual names that the schema lacks
-    /// are ignored, and so is `strict`. The running time is proportional to the number of
+    /// Returns the entities of a schema that this choice names. Names of presets that the schema
+    /// lacks are ignored, and so is `strict`. The running time is proportional to the number of
     /// declarations times the number of names.
     ///
     /// # Errors
     ///
-    /// - `Name` with `UnknownName` and the first given name, in capitals, that is no entity of the
-    ///   schema,
+    /// - `Name` with `UnknownName` and the first given word, in capitals, that is neither a preset nor
+    ///   an entity of the schema,
     /// - `Memory` if memory runs out.
     pub fn settle(
         &self,
@@ -54,14 +60,14 @@ impl Choice {
         ensures { let s = the_schema types.now.names in
             let choice = choice_of self.now in
             MatchResult result (λ c. (unknown_choice s choice ≡ None)
-            × (AreChosen s (chosen_names s choice) c × AreOfEntities s c))
+            × (AreChosen s (mergeable s choice) c × AreOfEntities s c))
             (IsChoiceFault s choice) }
     {
         let schema = types.names.schema;
         if let Some(name) = unknown_name(&self.names, schema) {
             return Err(unknown_fault(alloc, name));
         }
-        match chosen_of(alloc, &self.names, schema) {
+        match chosen_of(alloc, self, schema) {
             Ok(chosen) => Ok(chosen),
             Err(_) => Err(SchemaFault::Memory),
         }

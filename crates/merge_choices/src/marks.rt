@@ -3,17 +3,17 @@
 ghost use Rattle.std.specs.Prelude.{◌≡◌, map, IfOk};
 ghost use Rattle.express_syntax.specs.Views.{declaration_of};
 ghost use Rattle.express_syntax.specs.SchemaViews.{schema_of};
-ghost use Rattle.conformance.specs.Choices.{chosen_names};
-ghost use Rattle.merge_choices.specs.ChosenEntities.{names_of, names_in, is_marked, AreChosen, AreOfEntities};
+ghost use Rattle.conformance.specs.Choices.{mergeable};
+ghost use Rattle.merge_choices.specs.ChosenEntities.{choice_of, names_of, is_marked, AreChosen, AreOfEntities};
 
-use crate::choice::{Chosen, Names};
+use crate::choice::{Choice, Chosen, Names};
 use crate::names::is_named;
 use express_syntax::tree::{Declaration, SchemaTree};
 use std::alloc::{AllocError, Global};
 
 /// Whether a declaration is an entity with one of these names.
 fn is_marked(names: &Names, declaration: &Declaration<'_>) -> bool
-    ensures { result ≡ is_marked (names_in (names_of names.now)) (declaration_of declaration.now) }
+    ensures { result ≡ is_marked (names_of names.now) (declaration_of declaration.now) }
 {
     match declaration {
         Declaration::Entity(entity) => is_named(names, entity.name.spelling()),
@@ -28,7 +28,7 @@ fn marks_of(
     declarations: &[Declaration<'_>],
 ) -> Result<Vec<bool>, AllocError>
     ensures { IfOk result (λ marks. marks.items
-        ≡ map (is_marked (names_in (names_of names.now))) (map declaration_of declarations.now)) }
+        ≡ map (is_marked (names_of names.now)) (map declaration_of declarations.now)) }
 {
     let mut marks = Vec::with_capacity(alloc, declarations.len())?;
     for declaration in declarations {
@@ -37,16 +37,19 @@ fn marks_of(
     Ok(marks)
 }
 
-/// Returns the entities of a schema that these names choose.
+/// Returns the entities of a schema that a choice names.
 pub(crate) fn chosen_of(
     alloc: Global,
-    names: &Names,
+    choice: &Choice,
     schema: &SchemaTree<'_>,
 ) -> Result<Chosen, AllocError>
     ensures { IfOk result (λ c. AreChosen (schema_of schema.now)
-        (chosen_names (schema_of schema.now) (names_of names.now)) c
+        (mergeable (schema_of schema.now) (choice_of choice.now)) c
         × AreOfEntities (schema_of schema.now) c) }
 {
-    let marks = marks_of(alloc, names, &schema.declarations)?;
-    Ok(Chosen { marks })
+    let marks = marks_of(alloc, &choice.names, &schema.declarations)?;
+    Ok(Chosen {
+        in_sets: choice.in_sets,
+        marks,
+    })
 }

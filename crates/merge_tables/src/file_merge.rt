@@ -1,9 +1,9 @@
 //! The tables by which a file is merged according to its schema.
 
-ghost use Rattle.std.specs.Prelude.{◌≡◌, List, IfOk};
+ghost use Rattle.std.specs.Prelude.{◌≡◌, IfOk};
 ghost use Rattle.schema_names.specs.Schemas.{the_schema};
 ghost use Rattle.schema_resolution.specs.SoundGraphs.{IsSound};
-ghost use Rattle.schema_semantics.specs.Names.{Name};
+ghost use Rattle.conformance.specs.Choices.{Mergeable};
 ghost use Rattle.step_exchange.specs.Exchanges.{structure};
 ghost use Rattle.merge_choices.specs.ChosenEntities.{AreChosen};
 ghost use Rattle.population_forms.specs.steps.Tables.{AreTables};
@@ -94,10 +94,10 @@ pub fn merge_tables<'s: 'a, 'a>(
     exchange: &Exchange<'a>,
 ) -> Result<Merging<'s>, AllocError>
     requires sound { IsSound graph.now }
-    // The result is that of the file, for all names that `chosen` stands for.
-    ensures merges { (names : List Name)
-        → AreChosen (the_schema graph.now.types.names) names chosen.now
-        → IfOk result (Merges (the_schema graph.now.types.names) names (structure exchange.now)) }
+    // The result is that of the file, whatever may be merged by `chosen`.
+    ensures merges { (those : Mergeable)
+        → AreChosen (the_schema graph.now.types.names) those chosen.now
+        → IfOk result (Merges (the_schema graph.now.types.names) those (structure exchange.now)) }
     // The members of both tables are the instances, in order.
     ensures members { IfOk result (HaveMembers exchange.now.names) }
 {

@@ -15,7 +15,7 @@ use Rattle.value_equality.proofs.Congruences.{value_equality_is_congruence}
 use Rattle.value_equality.proofs.Rounds.{tables_decide}
 use Rattle.value_equality.proofs.Outputs.{certificates_prove}
 use Rattle.express_syntax.specs.Schemas.{Schema}
-use Rattle.schema_semantics.specs.Names.{Name}
+use Rattle.conformance.specs.Choices.{Mergeable}
 use Rattle.conformance.specs.PopulationLaws.{ImagesConform, NoFindingsExactlyWhereItConforms}
 use Rattle.merge_theorems.specs.Images.{MapsRows}
 use Rattle.merge_theorems.proofs.Keywords.{keywords_stand_once}
@@ -36,7 +36,7 @@ names_of_file s said f P rows =
     same_names s (instances s said f) P rows ∙ names_from s said.domain said.entities 0 f.sections
 
 -- the names of rows of an input are those of its file
-pub file_names : (s : Schema) (said : Said s) (chosen : List Name) (text : List ℕ) (input : IsMergeInput s said chosen text)
+pub file_names : (s : Schema) (said : Said s) (chosen : Mergeable) (text : List ℕ) (input : IsMergeInput s said chosen text)
     → names input.rows ≡ map (λ (r : trees.ExchangeRow). r.name) (rows_of input.file.sections)
 file_names s said chosen text input = names_of_file s said input.file input.rows input.are_rows
 
@@ -49,7 +49,7 @@ head_within (y ∷ ys) E x l w = go (E y x) (head_within ys E x l w.1)
     go true more = w.0
     go false more = more
 
-pub of_file : (s : Schema) (said : Said s) (chosen : List Name) (text : List ℕ) (input : IsMergeInput s said chosen text)
+pub of_file : (s : Schema) (said : Said s) (chosen : Mergeable) (text : List ℕ) (input : IsMergeInput s said chosen text)
     → AreRowsOfFile s said input.file input.rows
 of_file s said chosen text input = record {
   fits = input.reads.fits;

@@ -1,5 +1,5 @@
 -- An image leads what is pinned by the weak rules to what is pinned by them, and nothing else.
-use Rattle.std.specs.Prelude.{◌≡◌, ℕ, ◌==◌, IsTrue, List, [], ◌∷◌, Option, None, Some, ◌⊎◌}
+use Rattle.std.specs.Prelude.{◌≡◌, ℕ, ◌==◌, Bool, IsTrue, List, Option, None, Some, ◌⊎◌}
 use Rattle.std.specs.List.{IsDistinct}
 use Rattle.std.proofs.Common.{refl, sym, ap, subst, ◌∙◌, inl, inr}
 use Rattle.std.proofs.lemmas.Bool.{false≢true}
@@ -10,6 +10,7 @@ use Rattle.express_syntax.specs.Schemas.{Schema, DataType}
 use Rattle.schema_semantics.specs.Names.{Name, OneOf, Among}
 use Rattle.schema_semantics.specs.Attributes.{Place}
 use Rattle.schema_semantics.proofs.Lists.{from-map, every-at}
+use Rattle.conformance.specs.Choices.{Mergeable}
 use Rattle.conformance.specs.Bases.{Domain, base}
 use Rattle.conformance.specs.ParameterFits.{is_listed}
 use Rattle.conformance.specs.Entities.{Entities, data_types}
@@ -176,27 +177,28 @@ module _ (is js : List Instance) (h : ℕ → ℕ) (distinct : IsDistinct (◌==
         (element_same (StandsWithin w) (within_same w)) x.0 j.0 x.1 j.2 in
         (a.0, one_is (StandsInsideUnique s d en a.0) x.0 is x.1.here a.1, a.2)
 
-    bags_led : (y : ℕ) → OneOf (StandsInBag s d en y) is → OneOf (StandsInBag s d en (h y)) js
-    bags_led y o =
-        let i = found (StandsInBag s d en y) is o in
-        let a = found (λ (x : Slot). InBag y x.value) i.0.slots i.2 in
+    bags_led : (in_sets : Bool) (y : ℕ) → OneOf (StandsInBag s d en in_sets y) is → OneOf (StandsInBag s d en in_sets (h y)) js
+    bags_led in_sets y o =
+        let i = found (StandsInBag s d en in_sets y) is o in
+        let a = found (λ (x : Slot). InBag in_sets y x.value) i.0.slots i.2 in
         let z = of_instance i.0 i.1 in
         let c = slot_to i.0 z.0 z.1 a.0 a.1 in
-        one_is (StandsInBag s d en (h y)) z.0 js z.1.there
-        (one_is (λ (x : Slot). InBag (h y) x.value) c.0 z.0.slots c.1
-        (bag_same (h y) (renamed h a.0.value) c.0.value c.3 (bag_led h y a.0.value a.2)))
+        one_is (StandsInBag s d en in_sets (h y)) z.0 js z.1.there
+        (one_is (λ (x : Slot). InBag in_sets (h y) x.value) c.0 z.0.slots c.1
+        (bag_same in_sets (h y) (renamed h a.0.value) c.0.value c.3 (bag_led h in_sets y a.0.value a.2)))
 
-    bags_back : (w : ℕ) → OneOf (StandsInBag s d en w) js → From h w (λ y. OneOf (StandsInBag s d en y) is)
-    bags_back w o =
-        let j = found (StandsInBag s d en w) js o in
-        let c = found (λ (x : Slot). InBag w x.value) j.0.slots j.2 in
+    bags_back : (in_sets : Bool) (w : ℕ) → OneOf (StandsInBag s d en in_sets w) js
+        → From h w (λ y. OneOf (StandsInBag s d en in_sets y) is)
+    bags_back in_sets w o =
+        let j = found (StandsInBag s d en in_sets w) js o in
+        let c = found (λ (x : Slot). InBag in_sets w x.value) j.0.slots j.2 in
         let x = to_instance j.0 j.1 in
         let a = x.1.led.values c.0 c.1 in
-        let b = bag_back h w a.0.value (bag_same w c.0.value (renamed h a.0.value)
+        let b = bag_back h in_sets w a.0.value (bag_same in_sets w c.0.value (renamed h a.0.value)
         (back_again (renamed h a.0.value) c.0.value a.3) c.2) in (
           b.0,
-          one_is (StandsInBag s d en b.0) x.0 is x.1.here
-              (one_is (λ (y : Slot). InBag b.0 y.value) a.0 x.0.slots a.1 b.1),
+          one_is (StandsInBag s d en in_sets b.0) x.0 is x.1.here
+              (one_is (λ (y : Slot). InBag in_sets b.0 y.value) a.0 x.0.slots a.1 b.1),
           b.2,
         )
 
@@ -331,11 +333,11 @@ module _ (is js : List Instance) (h : ℕ → ℕ) (distinct : IsDistinct (◌==
   some_led : {A : Type 0} (P Q : A → Type 0) → ((a : A) → P a → Q a) → (xs : List A) → OneOf P xs → OneOf Q xs
   some_led P Q f xs o = let a = found P xs o in one_is Q a.0 xs a.1 (f a.0 a.2)
 
-  module _ (s : Schema) (d : Domain) (en : Entities) (rules : Rules) (chosen : List Name) where
+  module _ (s : Schema) (d : Domain) (en : Entities) (rules : Rules) (chosen : Mergeable) where
     elsewhere_led : (y : ℕ) → IsPinnedElsewhere s d en rules chosen is y
         → IsPinnedElsewhere s d en rules chosen js (h y)
-    elsewhere_led y (inl o) = inl (leaf_led s d en chosen y o)
-    elsewhere_led y (inr (inl o)) = inr (inl (bags_led s d en y o))
+    elsewhere_led y (inl o) = inl (leaf_led s d en chosen.entities y o)
+    elsewhere_led y (inr (inl o)) = inr (inl (bags_led s d en chosen.in_sets y o))
     elsewhere_led y (inr (inr (inl o))) =
         inr (inr (inl (some_led (IsInKey is y) (IsInKey js (h y)) (key_led y) rules.uniques o)))
     elsewhere_led y (inr (inr (inr o))) =
@@ -343,8 +345,8 @@ module _ (is js : List Instance) (h : ℕ → ℕ) (distinct : IsDistinct (◌==
 
     elsewhere_back : (w : ℕ) → IsPinnedElsewhere s d en rules chosen js w
         → From h w (IsPinnedElsewhere s d en rules chosen is)
-    elsewhere_back w (inl o) = let p = leaf_back s d en chosen w o in (p.0, inl p.1, p.2)
-    elsewhere_back w (inr (inl o)) = let p = bags_back s d en w o in (p.0, inr (inl p.1), p.2)
+    elsewhere_back w (inl o) = let p = leaf_back s d en chosen.entities w o in (p.0, inl p.1, p.2)
+    elsewhere_back w (inr (inl o)) = let p = bags_back s d en chosen.in_sets w o in (p.0, inr (inl p.1), p.2)
     elsewhere_back w (inr (inr (inl o))) =
         let u = found (IsInKey js w) rules.uniques o in
         let p = key_back w u.0 u.2 in

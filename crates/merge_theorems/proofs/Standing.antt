@@ -1,14 +1,14 @@
 -- What stands in values, where references are led, and in values that agree.
-use Rattle.std.specs.Prelude.{◌≡◌, ℕ, ◌==◌, true, Some, ◌⊎◌}
+use Rattle.std.specs.Prelude.{◌≡◌, ℕ, ◌==◌, Bool, true, false, not, ◌||◌, cond, Some, ◌⊎◌}
 use Rattle.std.proofs.Common.{refl, sym, ap, subst, ◌∙◌, inl, inr, eqb-true}
 use Rattle.step_values.specs.Values.{Value, leaf, reference, typed, sequence, bag, Values, none, more, IsReordering, unchanged, kept, swapped, joined, Agree, AgreeEach}
 use Rattle.step_values.specs.References.{renamed, renamed_each}
-use Rattle.step_values.proofs.Crowds.{by_names}
+use Rattle.step_values.proofs.Crowds.{sized, moved, crowd_renamed, bags_alike, by_names}
 use Rattle.express_syntax.specs.Schemas.{Schema}
 use Rattle.conformance.specs.Bases.{Base, Domain, base}
 use Rattle.conformance.specs.ParameterFits.{inner}
 use Rattle.conformance.specs.SeparatingMaps.{Occurs, OccursIn}
-use Rattle.conformance.specs.CollectionMembers.{InBag, InBagOf}
+use Rattle.conformance.specs.CollectionMembers.{pins_members, InBag, InBagOf}
 use Rattle.conformance.specs.Elements.{AnElement, IsReferenceTo, StandsWithin, HasUnique, HasUniqueAmong}
 use Rattle.conformance.proofs.Standing.{either}
 
@@ -39,21 +39,36 @@ mutual
   occurs_in_same y (more v vs) (more w ws) e (inr o) = inr (occurs_in_same y vs ws e.1 o)
   occurs_in_same y _ _ e o = absurd e
 
-mutual
-  pub bag_same : (y : ℕ) (v w : Value) → Agree (◌==◌) v w → InBag y v → InBag y w
-  bag_same y (leaf a) (leaf b) e o = elim o [ ]
-  bag_same y (reference m) (reference n) e o = elim o [ ]
-  bag_same y (typed m v) (typed n w) e o = bag_same y v w e.1 o
-  bag_same y (sequence vs) (sequence ws) e o = bags_same y vs ws e o
-  bag_same y (bag vs) (bag ws) e o =
-      let m = by_names vs ws e in occurs_reordered y m.1 (occurs_in_same y vs m.0 m.2 o)
-  bag_same y _ _ e o = absurd e
+bags_reordered : (in_sets : Bool) (y : ℕ) {us ws : Values} → IsReordering us ws → InBagOf in_sets y us
+    → InBagOf in_sets y ws
+bags_reordered in_sets y (unchanged vs) o = o
+bags_reordered in_sets y (kept v r) (inl o) = inl o
+bags_reordered in_sets y (kept v r) (inr o) = inr (bags_reordered in_sets y r o)
+bags_reordered in_sets y (swapped v w vs) (inl o) = inr (inl o)
+bags_reordered in_sets y (swapped v w vs) (inr (inl o)) = inl o
+bags_reordered in_sets y (swapped v w vs) (inr (inr o)) = inr (inr o)
+bags_reordered in_sets y (joined r q) o = bags_reordered in_sets y q (bags_reordered in_sets y r o)
 
-  bags_same : (y : ℕ) (vs ws : Values) → AgreeEach (◌==◌) vs ws → InBagOf y vs → InBagOf y ws
-  bags_same y none none e o = elim o [ ]
-  bags_same y (more v vs) (more w ws) e (inl o) = inl (bag_same y v w e.0 o)
-  bags_same y (more v vs) (more w ws) e (inr o) = inr (bags_same y vs ws e.1 o)
-  bags_same y _ _ e o = absurd e
+module _ (in_sets : Bool) where
+  mutual
+    pub bag_same : (y : ℕ) (v w : Value) → Agree (◌==◌) v w → InBag in_sets y v → InBag in_sets y w
+    bag_same y (leaf a) (leaf b) e o = elim o [ ]
+    bag_same y (reference m) (reference n) e o = elim o [ ]
+    bag_same y (typed m v) (typed n w) e o = bag_same y v w e.1 o
+    bag_same y (sequence vs) (sequence ws) e o = bags_same y vs ws e o
+    bag_same y (bag vs) (bag ws) e o =
+        let m = by_names vs ws e in
+        moved (OccursIn y ws) (InBagOf in_sets y ws) (pins_members in_sets vs) (pins_members in_sets ws)
+        (ap (λ b. not in_sets || b) (bags_alike (◌==◌) vs ws e)) (sized (pins_members in_sets vs) o
+        (λ s. occurs_reordered y m.1 (occurs_in_same y vs m.0 m.2 s))
+        (λ s. bags_reordered in_sets y m.1 (bags_same y vs m.0 m.2 s)))
+    bag_same y _ _ e o = absurd e
+
+    bags_same : (y : ℕ) (vs ws : Values) → AgreeEach (◌==◌) vs ws → InBagOf in_sets y vs → InBagOf in_sets y ws
+    bags_same y none none e o = elim o [ ]
+    bags_same y (more v vs) (more w ws) e (inl o) = inl (bag_same y v w e.0 o)
+    bags_same y (more v vs) (more w ws) e (inr o) = inr (bags_same y vs ws e.1 o)
+    bags_same y _ _ e o = absurd e
 
 pub element_same : (P : Value → Type 0) → ((v w : Value) → Agree (◌==◌) v w → P v → P w) → (vs ws : Values)
     → AgreeEach (◌==◌) vs ws → AnElement P vs → AnElement P ws
@@ -171,31 +186,47 @@ module _ (h : ℕ → ℕ) where
     occurs_in_back z (more v vs) (inl o) = let p = occurs_back z v o in (p.0, inl p.1, p.2)
     occurs_in_back z (more v vs) (inr o) = let p = occurs_in_back z vs o in (p.0, inr p.1, p.2)
 
-  mutual
-    pub bag_led : (y : ℕ) (v : Value) → InBag y v → InBag (h y) (renamed h v)
-    bag_led y (leaf a) o = elim o [ ]
-    bag_led y (reference z) o = elim o [ ]
-    bag_led y (typed n v) o = bag_led y v o
-    bag_led y (sequence vs) o = bags_led y vs o
-    bag_led y (bag vs) o = occurs_in_led y vs o
+  -- one of two things is led to z, by a test
+  from_either : (z : ℕ) (A B : ℕ → Type 0) {X Y : Type 0} (b : Bool) → (X → From z A) → (Y → From z B) → cond b X Y
+      → From z (λ y. cond b (A y) (B y))
+  from_either z A B true f g o = f o
+  from_either z A B false f g o = g o
 
-    bags_led : (y : ℕ) (vs : Values) → InBagOf y vs → InBagOf (h y) (renamed_each h vs)
-    bags_led y none o = elim o [ ]
-    bags_led y (more v vs) (inl o) = inl (bag_led y v o)
-    bags_led y (more v vs) (inr o) = inr (bags_led y vs o)
+  module _ (in_sets : Bool) where
+    mutual
+      pub bag_led : (y : ℕ) (v : Value) → InBag in_sets y v → InBag in_sets (h y) (renamed h v)
+      bag_led y (leaf a) o = elim o [ ]
+      bag_led y (reference z) o = elim o [ ]
+      bag_led y (typed n v) o = bag_led y v o
+      bag_led y (sequence vs) o = bags_led y vs o
+      bag_led y (bag vs) o =
+          moved (OccursIn (h y) (renamed_each h vs)) (InBagOf in_sets (h y) (renamed_each h vs))
+          (pins_members in_sets vs) (pins_members in_sets (renamed_each h vs))
+          (ap (λ b. not in_sets || b) (sym (crowd_renamed h vs))) (sized (pins_members in_sets vs) o
+          (λ s. occurs_in_led y vs s) (λ s. bags_led y vs s))
 
-  mutual
-    pub bag_back : (z : ℕ) (v : Value) → InBag z (renamed h v) → From z (λ y. InBag y v)
-    bag_back z (leaf a) o = elim o [ ]
-    bag_back z (reference y) o = elim o [ ]
-    bag_back z (typed n v) o = bag_back z v o
-    bag_back z (sequence vs) o = bags_back z vs o
-    bag_back z (bag vs) o = occurs_in_back z vs o
+      bags_led : (y : ℕ) (vs : Values) → InBagOf in_sets y vs → InBagOf in_sets (h y) (renamed_each h vs)
+      bags_led y none o = elim o [ ]
+      bags_led y (more v vs) (inl o) = inl (bag_led y v o)
+      bags_led y (more v vs) (inr o) = inr (bags_led y vs o)
 
-    bags_back : (z : ℕ) (vs : Values) → InBagOf z (renamed_each h vs) → From z (λ y. InBagOf y vs)
-    bags_back z none o = elim o [ ]
-    bags_back z (more v vs) (inl o) = let p = bag_back z v o in (p.0, inl p.1, p.2)
-    bags_back z (more v vs) (inr o) = let p = bags_back z vs o in (p.0, inr p.1, p.2)
+    mutual
+      pub bag_back : (z : ℕ) (v : Value) → InBag in_sets z (renamed h v) → From z (λ y. InBag in_sets y v)
+      bag_back z (leaf a) o = elim o [ ]
+      bag_back z (reference y) o = elim o [ ]
+      bag_back z (typed n v) o = bag_back z v o
+      bag_back z (sequence vs) o = bags_back z vs o
+      bag_back z (bag vs) o =
+          from_either z (λ y. OccursIn y vs) (λ y. InBagOf in_sets y vs) (pins_members in_sets vs)
+          (λ s. occurs_in_back z vs s) (λ s. bags_back z vs s)
+          (moved (OccursIn z (renamed_each h vs)) (InBagOf in_sets z (renamed_each h vs))
+          (pins_members in_sets (renamed_each h vs)) (pins_members in_sets vs)
+          (ap (λ b. not in_sets || b) (crowd_renamed h vs)) o)
+
+      bags_back : (z : ℕ) (vs : Values) → InBagOf in_sets z (renamed_each h vs) → From z (λ y. InBagOf in_sets y vs)
+      bags_back z none o = elim o [ ]
+      bags_back z (more v vs) (inl o) = let p = bag_back z v o in (p.0, inl p.1, p.2)
+      bags_back z (more v vs) (inr o) = let p = bags_back z vs o in (p.0, inr p.1, p.2)
 
   pub element_led : (P Q : Value → Type 0) → ((v : Value) → P v → Q (renamed h v)) → (vs : Values) → AnElement P vs
       → AnElement Q (renamed_each h vs)

@@ -2,17 +2,16 @@
 use Rattle.std.specs.Prelude.{◌≡◌, ◌≤◌, ℕ, suc, Bool, List, [], ◌∷◌, length, map}
 use Rattle.std.proofs.Common.{refl, sym, subst, ◌∙◌, inl, arith, length-append}
 use Rattle.std.proofs.lemmas.List.{length-map}
-use Rattle.step_structures.specs.Trees as trees
 use Rattle.step_structures.specs.Trees.{File, Section, rows_of}
 use Rattle.value_equality.specs.Rows.{Row, names, IsPopulation, BagsArePinned}
 use Rattle.value_equality.specs.ValueEquality.{IsCongruence}
 use Rattle.value_equality.specs.Images.{IsImage, head_of, quotient}
 use Rattle.value_equality.proofs.Quotients.{quotients_are_images}
 use Rattle.value_equality.proofs.Counting.{no_image_has_fewer}
+use Rattle.conformance.specs.Choices.{Mergeable}
 use Rattle.conformance.specs.PlainRows.{AreRowsOf}
 use Rattle.express_syntax.specs.Schemas.{Schema}
 use Rattle.express_syntax.specs.Profile.{Every}
-use Rattle.schema_semantics.specs.Names.{Name}
 use Rattle.conformance.specs.Populations.{Instance, instance_of, instances_from, population_of}
 use Rattle.conformance.specs.PopulationLaws.{AreOf, ImagesConform, NoFindingsExactlyWhereItConforms}
 use Rattle.conformance.proofs.Rowed.{bags_of_rows_are_pinned}
@@ -35,7 +34,7 @@ merged_populations_are_led s d en h f =
     let same = population_merged h s d en f in
     (same, λ P are. subst (λ js. AreRowsOf s js (merged_rows h P)) (sym same) (rows_led h s is P are))
 
-module _ (s : Schema) (said : Said s) (chosen : List Name) (f : File) (P : List Row) (pinned : ℕ → Bool)
+module _ (s : Schema) (said : Said s) (chosen : Mergeable) (f : File) (P : List Row) (pinned : ℕ → Bool)
     (file : AreRowsOfFile s said f P) (pins : ArePins s said chosen (instances s said f) P pinned) where
   abbrev is : List Instance
   is = instances s said f

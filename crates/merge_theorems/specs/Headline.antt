@@ -6,9 +6,9 @@ use Rattle.value_equality.specs.Rows.{Row, names, IsPopulation, SamePopulation}
 use Rattle.value_equality.specs.ValueEquality.{IsValueEquality}
 use Rattle.value_equality.specs.Images.{IsImage, head_of, quotient}
 use Rattle.value_equality.specs.Tables.{Table, shares, IsValid}
+use Rattle.conformance.specs.Choices.{Mergeable}
 use Rattle.conformance.specs.PlainRows.{AreRowsOf}
 use Rattle.express_syntax.specs.Schemas.{Schema}
-use Rattle.schema_semantics.specs.Names.{Name}
 use Rattle.conformance.specs.Findings.{findings}
 use Rattle.step_structures.specs.MergedTexts.{merged_text}
 use Rattle.conformance.specs.SchemaMeanings.{Said, instances, FileConforms}
@@ -17,7 +17,7 @@ use Rattle.merge_theorems.specs.MergedFileLaws.{merged_by}
 
 -- The text reads as a structure that conforms to the schema. These are the rows of its instances,
 -- and the instances that are pinned if those of the chosen entities are merged.
-pub record IsMergeInput (s : Schema) (said : Said s) (chosen : List Name) (text : List ℕ) : Type 0 where
+pub record IsMergeInput (s : Schema) (said : Said s) (chosen : Mergeable) (text : List ℕ) : Type 0 where
   pub header_bytes : List ℕ
   pub file : File
   pub reads : ReadsAs text header_bytes file
@@ -30,7 +30,7 @@ pub record IsMergeInput (s : Schema) (said : Said s) (chosen : List Name) (text 
 
 -- The output is the text of the input's structure in which exactly the value-equal instances are
 -- merged. A pinned instance is equal only to itself.
-pub record IsMergeOf (s : Schema) (said : Said s) (chosen : List Name) (text output : List ℕ) : Type 0 where
+pub record IsMergeOf (s : Schema) (said : Said s) (chosen : Mergeable) (text output : List ℕ) : Type 0 where
   pub input : IsMergeInput s said chosen text
   pub equal : ℕ → ℕ → Bool
   pub equality : IsValueEquality input.rows input.pinned equal
@@ -38,7 +38,7 @@ pub record IsMergeOf (s : Schema) (said : Said s) (chosen : List Name) (text out
 
 -- The output reads as the merged structure, which conforms. Its rows are those of the quotient by
 -- value equality. The quotient is an image, and no image has fewer instances.
-pub record IsLeast (s : Schema) (said : Said s) (chosen : List Name) (text output : List ℕ) (merge : IsMergeOf s said chosen text output)
+pub record IsLeast (s : Schema) (said : Said s) (chosen : Mergeable) (text output : List ℕ) (merge : IsMergeOf s said chosen text output)
     : Type 0 where
   pub file : File
   pub is_merged : file ≡ merged_by merge.input.rows merge.equal merge.input.file
@@ -51,14 +51,14 @@ pub record IsLeast (s : Schema) (said : Said s) (chosen : List Name) (text outpu
       → length (rows_of file.sections) ≤ length Q
 
 abbrev pub MergesAreLeast : Type 0
-MergesAreLeast = (s : Schema) (said : Said s) (chosen : List Name) (text output : List ℕ) (merge : IsMergeOf s said chosen text output)
+MergesAreLeast = (s : Schema) (said : Said s) (chosen : Mergeable) (text output : List ℕ) (merge : IsMergeOf s said chosen text output)
     → IsLeast s said chosen text output merge
 
 -- What a checker of tables verifies, whoever made the output and the tables. The input conforms.
 -- The output reads as a structure in which nothing is wrong with any single instance. The first
 -- table is valid under the weak pins, the second under the gentle pins that come from the first.
 -- The rows of the output are those of the quotient by the second table, in any order.
-pub record IsCheckedOutput (s : Schema) (said : Said s) (chosen : List Name) (text output : List ℕ) : Type 0 where
+pub record IsCheckedOutput (s : Schema) (said : Said s) (chosen : Mergeable) (text output : List ℕ) : Type 0 where
   pub input : IsMergeInput s said chosen text
   pub header_bytes : List ℕ
   pub file : File
@@ -75,7 +75,7 @@ pub record IsCheckedOutput (s : Schema) (said : Said s) (chosen : List Name) (te
   pub same : SamePopulation rows (quotient input.rows (shares second second.rounds))
 
 -- The output conforms and is an image, and no image has fewer instances.
-pub record IsLeastImage (s : Schema) (said : Said s) (chosen : List Name) (text output : List ℕ) (checked : IsCheckedOutput s said chosen text output)
+pub record IsLeastImage (s : Schema) (said : Said s) (chosen : Mergeable) (text output : List ℕ) (checked : IsCheckedOutput s said chosen text output)
     : Type 0 where
   pub equality : IsValueEquality checked.input.rows checked.input.pinned (shares checked.second checked.second.rounds)
   pub conforms : FileConforms s said checked.file
@@ -85,10 +85,10 @@ pub record IsLeastImage (s : Schema) (said : Said s) (chosen : List Name) (text 
       → length checked.rows ≤ length Q
 
 abbrev pub ChecksProve : Type 0
-ChecksProve = (s : Schema) (said : Said s) (chosen : List Name) (text output : List ℕ) (checked : IsCheckedOutput s said chosen text output)
+ChecksProve = (s : Schema) (said : Said s) (chosen : Mergeable) (text output : List ℕ) (checked : IsCheckedOutput s said chosen text output)
     → IsLeastImage s said chosen text output checked
 
 -- A second run finds nothing more to merge, so it writes the same bytes.
 abbrev pub SecondMergesStay : Type 0
-SecondMergesStay = (s : Schema) (said : Said s) (chosen : List Name) (text output again : List ℕ)
+SecondMergesStay = (s : Schema) (said : Said s) (chosen : Mergeable) (text output again : List ℕ)
     → IsMergeOf s said chosen text output → IsMergeOf s said chosen output again → again ≡ output

@@ -6,7 +6,8 @@ use Rattle.value_equality.specs.Rows.{Row}
 use Rattle.value_equality.specs.ValueEquality.{IsValueEquality}
 use Rattle.express_syntax.specs.Schemas.{Schema}
 use Rattle.express_syntax.specs.Profile.{Every}
-use Rattle.schema_semantics.specs.Names.{Name, Among}
+use Rattle.schema_semantics.specs.Names.{Among}
+use Rattle.conformance.specs.Choices.{Mergeable}
 use Rattle.conformance.specs.Bases.{Domain}
 use Rattle.conformance.specs.Entities.{Entities}
 use Rattle.conformance.specs.Findings.{findings}
@@ -47,7 +48,7 @@ ImagesOfRowsAreLed = (s : Schema) (is js : List Instance) (P Q : List Row) (h : 
 -- weak pins. Then the instances of the image conform and break no rule (of uniqueness, of inverse
 -- attributes or of a domain), if the original instances conform and break none.
 abbrev pub ImagesOfRowsConform : Type 0
-ImagesOfRowsConform = (s : Schema) (d : Domain) (en : Entities) (rules : Rules) (chosen : List Name)
+ImagesOfRowsConform = (s : Schema) (d : Domain) (en : Entities) (rules : Rules) (chosen : Mergeable)
     (attributes : Attributes) → AreAttributes s rules.inverses attributes → (domain_rules : List DomainRule)
     (is js : List Instance) (P Q : List Row) (h : ℕ → ℕ) (weak pinned : ℕ → Bool) (E : ℕ → ℕ → Bool)
     → MapsRows s is js P Q h pinned

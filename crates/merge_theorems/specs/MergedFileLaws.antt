@@ -9,9 +9,9 @@ use Rattle.value_equality.specs.Rows.{Row, names, IsPopulation, BagsArePinned}
 use Rattle.value_equality.specs.ValueEquality.{IsValueEquality, IsCongruence}
 use Rattle.value_equality.specs.Images.{IsImage, head_of, quotient}
 use Rattle.value_equality.specs.Tables.{Table, shares, HasMembers}
+use Rattle.conformance.specs.Choices.{Mergeable}
 use Rattle.conformance.specs.PlainRows.{AreRowsOf}
 use Rattle.express_syntax.specs.Schemas.{Schema}
-use Rattle.schema_semantics.specs.Names.{Name}
 use Rattle.conformance.specs.Bases.{Domain}
 use Rattle.conformance.specs.Entities.{Entities}
 use Rattle.conformance.specs.Populations.{population_of}
@@ -55,7 +55,7 @@ pub record AreRowsOfFile (s : Schema) (said : Said s) (f : File) (P : List Row) 
 -- If a file is merged by a congruence under gentle pins, the merged file conforms, its rows are
 -- those of the quotient, and the quotient is an image.
 abbrev pub MergedFilesConform : Type 0
-MergedFilesConform = (s : Schema) (said : Said s) (chosen : List Name) (f : File) (P : List Row) (pinned : ℕ → Bool)
+MergedFilesConform = (s : Schema) (said : Said s) (chosen : Mergeable) (f : File) (P : List Row) (pinned : ℕ → Bool)
     (F : ℕ → ℕ → Bool) → AreRowsOfFile s said f P → ArePins s said chosen (instances s said f) P pinned
     → IsCongruence P pinned F
     → FileConforms s said (merged_by P F f)
@@ -65,7 +65,7 @@ MergedFilesConform = (s : Schema) (said : Said s) (chosen : List Name) (f : File
 -- Each reference in a bag of more than one value names a pinned instance. So if a file is merged by
 -- value equality, no image has fewer instances.
 abbrev pub MergedFilesAreLeast : Type 0
-MergedFilesAreLeast = (s : Schema) (said : Said s) (chosen : List Name) (f : File) (P : List Row) (pinned : ℕ → Bool)
+MergedFilesAreLeast = (s : Schema) (said : Said s) (chosen : Mergeable) (f : File) (P : List Row) (pinned : ℕ → Bool)
     (F : ℕ → ℕ → Bool) → AreRowsOfFile s said f P → ArePins s said chosen (instances s said f) P pinned
     → IsValueEquality P pinned F
     → BagsArePinned P pinned

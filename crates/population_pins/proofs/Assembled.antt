@@ -9,6 +9,7 @@ use Rattle.std.proofs.lemmas.Bool.{eqb-true, false≢true}
 use Rattle.express_syntax.specs.Schemas.{Schema}
 use Rattle.schema_semantics.specs.Names.{Name, OneOf, Among}
 use Rattle.schema_semantics.specs.Attributes.{Place}
+use Rattle.conformance.specs.Choices.{Mergeable}
 use Rattle.conformance.specs.Bases.{Domain}
 use Rattle.conformance.specs.Entities.{Entities}
 use Rattle.conformance.specs.ParameterFits.{is_listed}
@@ -42,7 +43,7 @@ at-types y is P none h = by (instance_at is y) refl h
     by None e k = absurd (none k)
     by (Some x) e k = let (there, named) = at-some y is x e in (x, there, named, k)
 
-module _ (s : Schema) (d : Domain) (en : Entities) (rules : Rules) (chosen : List Name) (is : List Instance)
+module _ (s : Schema) (d : Domain) (en : Entities) (rules : Rules) (chosen : Mergeable) (is : List Instance)
     (distinct : IsDistinct (◌==◌) (names is)) (y : ℕ) where
   abbrev ByForm : Instance → Type 0
   ByForm x = PinsByForm s en chosen rules.uniques y x
@@ -56,8 +57,8 @@ module _ (s : Schema) (d : Domain) (en : Entities) (rules : Rules) (chosen : Lis
 
   abbrev Elsewhere : Type 0
   Elsewhere =
-      HasUnchosenLeaf s en chosen (types_at is y)
-      ⊎ (OneOf (StandsInBag s d en y) is ⊎ OneOf (IsInKey is y) rules.uniques)
+      HasUnchosenLeaf s en chosen.entities (types_at is y)
+      ⊎ (OneOf (StandsInBag s d en chosen.in_sets y) is ⊎ OneOf (IsInKey is y) rules.uniques)
 
   in-key : (x : Instance) → Among x is → (us : List UniqueRule) → OneOf (StandsInKey s en chosen us y x) us
       → OneOf (IsInKey is y) us
@@ -71,23 +72,23 @@ module _ (s : Schema) (d : Domain) (en : Entities) (rules : Rules) (chosen : Lis
   by-form h = let x = found ByForm is h in by x.0 x.1 x.2
     where
       by : (x : Instance) → Among x is → ByForm x → Elsewhere
-      by x m (inl (e, inl k)) = inl (subst (HasUnchosenLeaf s en chosen) (own-types x m e) k)
+      by x m (inl (e, inl k)) = inl (subst (HasUnchosenLeaf s en chosen.entities) (own-types x m e) k)
       by x m (inl (e, inr k)) =
           let u = found (λ (v : UniqueRule). IsTrue (is_listed v.entity x.types)) rules.uniques k in
           inr (inr (one_is (IsInKey is y) u.0 rules.uniques u.1
           (inl (subst (λ ts. IsTrue (is_listed u.0.entity ts)) (own-types x m e) u.2))))
       by x m (inr (inl k)) = inr (inr (in-key x m rules.uniques k))
-      by x m (inr (inr k)) = inr (inl (one_is (StandsInBag s d en y) x is m k))
+      by x m (inr (inr k)) = inr (inl (one_is (StandsInBag s d en chosen.in_sets y) x is m k))
 
-  none-leaf : HasUnchosenLeaf s en chosen [] → ⊥
+  none-leaf : HasUnchosenLeaf s en chosen.entities [] → ⊥
   none-leaf h = h
 
   pub to-form : Elsewhere → OneOf ByForm is
   to-form (inl h) =
-      let (x, m, e, k) = at-types y is (HasUnchosenLeaf s en chosen) none-leaf h in
+      let (x, m, e, k) = at-types y is (HasUnchosenLeaf s en chosen.entities) none-leaf h in
       one_is ByForm x is m (inl (e, inl k))
   to-form (inr (inl h)) =
-      let x = found (StandsInBag s d en y) is h in one_is ByForm x.0 is x.1 (inr (inr x.2))
+      let x = found (StandsInBag s d en chosen.in_sets y) is h in one_is ByForm x.0 is x.1 (inr (inr x.2))
   to-form (inr (inr h)) = let u = found (IsInKey is y) rules.uniques h in by u.0 u.1 u.2
     where
       by : (u : UniqueRule) → Among u rules.uniques → IsInKey is y u → OneOf ByForm is

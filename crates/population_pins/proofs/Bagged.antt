@@ -1,5 +1,5 @@
 -- The SETs and BAGs among the values of attributes, one by one.
-use Rattle.std.specs.Prelude.{◌≡◌, ℕ, zero, suc, ◌+◌, ◌<◌, ◌≤◌, false, List, [], ◌∷◌, length, drop, None, Some, ◌⊎◌, ◌↔◌, Vec}
+use Rattle.std.specs.Prelude.{◌≡◌, ℕ, Bool, zero, suc, ◌+◌, ◌<◌, ◌≤◌, false, List, [], ◌∷◌, length, drop, None, Some, ◌⊎◌, ◌↔◌, Vec}
 use Rattle.std.proofs.Common.{refl, sym, subst, arith, add-one, Global}
 use Rattle.express_syntax.specs.Schemas.{Schema}
 use Rattle.schema_semantics.specs.Names.{OneOf}
@@ -15,12 +15,12 @@ use Rattle.population_pins.specs.steps.Pinning.{Pins, PinsUpTo}
 use Rattle.population_pins.proofs.Pinning as pinning
 
 -- values of other kinds have no SETs and BAGs in them
-pub none-bagged : (y : ℕ) (v : Value) → is_of_parts (kind_of v) ≡ false → InBag y v → ⊥
-none-bagged y (leaf a) e h = h
-none-bagged y (reference z) e h = h
-none-bagged y (typed n v) e h = absurd (cc)
-none-bagged y (sequence vs) e h = absurd (cc)
-none-bagged y (bag vs) e h = absurd (cc)
+pub none-bagged : (in_sets : Bool) (y : ℕ) (v : Value) → is_of_parts (kind_of v) ≡ false → InBag in_sets y v → ⊥
+none-bagged in_sets y (leaf a) e h = h
+none-bagged in_sets y (reference z) e h = h
+none-bagged in_sets y (typed n v) e h = absurd (cc)
+none-bagged in_sets y (sequence vs) e h = absurd (cc)
+none-bagged in_sets y (bag vs) e h = absurd (cc)
 
 drop-some : {A : Type 0} (xs : List A) (i : ℕ) → i < length xs → (x : A) × (drop i xs ≡ x ∷ drop (i + 1) xs)
 drop-some [] i lt = absurd (omega (arith, lt))
@@ -40,22 +40,22 @@ after-none none (suc i) e = refl
 after-none (more v vs) zero e = absurd (cc)
 after-none (more v vs) (suc i) e = after-none vs i e
 
-module _ (s : Schema) (xs : List SlotForm) (vs : Values) (old : Vec ℕ Global) where
+module _ (in_sets : Bool) (s : Schema) (xs : List SlotForm) (vs : Values) (old : Vec ℕ Global) where
   abbrev In : List Slot → ℕ → Type 0
-  In slots y = OneOf (λ (x : Slot). InBag y x.value) slots
+  In slots y = OneOf (λ (x : Slot). InBag in_sets y x.value) slots
 
   abbrev Left : ℕ → List Slot
   Left i = slots_seen s (drop i xs) (after i vs)
 
   -- one value more
   pub next : (i : ℕ) (v : Value) (mid new : Vec ℕ Global) → i < length xs → nth vs i ≡ Some v
-      → PinsUpTo (In (slots_seen s xs vs)) (In (Left i)) old mid → Pins (λ y. InBag y v) mid new
+      → PinsUpTo (In (slots_seen s xs vs)) (In (Left i)) old mid → Pins (λ y. InBag in_sets y v) mid new
       → PinsUpTo (In (slots_seen s xs vs)) (In (Left (i + 1))) old new
   next i v mid new lt at h k =
       let (x, cut) = drop-some xs i lt in
-      pinning.next (In (slots_seen s xs vs)) (In (Left i)) (λ y. InBag y v) (In (Left (i + 1))) old mid new h k
-      (λ y. subst (λ ys. In (slots_seen s ys (after i vs)) y ↔ (InBag y v ⊎ In (Left (i + 1)) y)) (sym cut)
-      (subst (λ us. In (slots_seen s (x ∷ drop (i + 1) xs) us) y ↔ (InBag y v ⊎ In (Left (i + 1)) y))
+      pinning.next (In (slots_seen s xs vs)) (In (Left i)) (λ y. InBag in_sets y v) (In (Left (i + 1))) old mid new h k
+      (λ y. subst (λ ys. In (slots_seen s ys (after i vs)) y ↔ (InBag in_sets y v ⊎ In (Left (i + 1)) y)) (sym cut)
+      (subst (λ us. In (slots_seen s (x ∷ drop (i + 1) xs) us) y ↔ (InBag in_sets y v ⊎ In (Left (i + 1)) y))
       (sym (after_at vs i v at)) ((λ t. t), (λ t. t))))
 
   -- no attribute more

@@ -29,7 +29,7 @@ use Rattle.conformance.specs.Pins.{HasUnchosenLeaf, OccursAt}
 use Rattle.conformance.specs.Rules as rules
 use Rattle.schema_constraints.specs.declared.uniques.UniqueRule.{UniqueRule}
 use Rattle.schema_constraints.specs.RuleViews.{unique_seen, IsNumberedUnique}
-use Rattle.merge_choices.specs.ChosenEntities.{is_chosen, AreChosen}
+use Rattle.merge_choices.specs.ChosenEntities.{is_chosen, AreMarked}
 use Rattle.merge_choices.specs.declared.choice.Chosen.{Chosen}
 use Rattle.typed_populations.specs.ValueOrder.{position_among, picked_at}
 use Rattle.typed_populations.specs.Rows.{place_at, slots_seen}
@@ -109,7 +109,7 @@ module _ (s : Schema) (resolved : IsResolved s) (above : Graph) (are-above : Are
       by (Some (entity d)) at t = (d, at)
       by (Some (skipped d)) at t = absurd (cc)
 
-  module _ (names : List Name) (c : Chosen) (chosen : AreChosen s names c) (types : List ℕ)
+  module _ (names : List Name) (c : Chosen) (chosen : AreMarked s names c) (types : List ℕ)
       (numbered : Every (λ i. HasNumber s (name_at s i) i) types)
       (entities : Every (λ i. is_entity_at s i ≡ true) types) where
     -- a type that no other is below isn't chosen

@@ -14,6 +14,8 @@ pub mod Asked
 pub mod Rowed
 pub mod Distinct
 pub mod Formed
+pub mod ClosedRows
+pub mod Transitive
 pub mod Ruled
 pub mod Sided
 pub mod Assembled

@@ -5,6 +5,7 @@ pub mod Elements
 pub mod Holding
 pub mod Slots
 pub mod Forms
+pub mod SupertypeLists
 pub mod Rows
 pub mod Runs
 pub mod Sides

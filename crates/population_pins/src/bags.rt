@@ -1,7 +1,8 @@
-//! Pinning what occurs in SETs and BAGs (ISO 10303-11, 8.2.3 and 8.2.4).
+//! Pinning what occurs in SETs and BAGs (ISO 10303-11, 8.2.3 and 8.2.4). With `in_sets` those of one
+//! value pin nothing.
 
 ghost use Rattle.std.specs.Prelude.{◌≡◌, OnOk};
-ghost use Rattle.conformance.specs.CollectionMembers.{InBag, InBagOf};
+ghost use Rattle.conformance.specs.CollectionMembers.{pins_members, InBag, InBagOf};
 ghost use Rattle.step_values.specs.steps.Slots.{kind_of, node_value};
 ghost use Rattle.population_pins.specs.steps.Bags.{is_of_parts};
 ghost use Rattle.population_pins.specs.steps.Pinning.{Pins};
@@ -17,42 +18,69 @@ fn has_parts(value: &Slot<'_, '_>) -> bool
     matches!(value.kind(), Kind::Typed | Kind::List | Kind::Bag)
 }
 
-/// Pins the instances that occur, at any depth, in a SET or BAG that is the value or is inside it.
+/// Whether a SET or BAG of these values pins what occurs in it.
+fn pins_members(in_sets: bool, values: &Slots<'_, '_>) -> bool
+    ensures { result ≡ pins_members in_sets values.now }
+{
+    !in_sets || values.len() > 1
+}
+
+/// Pins the instances that occur, at any depth, in a SET or BAG that pins them and that is the value
+/// or is inside it.
 #[cycle(bags)]
 #[inline(always)]
-pub fn pin_in_bags(pinned: &mut Vec<u64>, value: &Slot<'_, '_>) -> Result<(), AllocError>
-    ensures { OnOk result (Pins (λ y. InBag y value.now) pinned.old pinned.new) }
+pub fn pin_in_bags(
+    pinned: &mut Vec<u64>,
+    in_sets: bool,
+    value: &Slot<'_, '_>,
+) -> Result<(), AllocError>
+    ensures { OnOk result (Pins (λ y. InBag in_sets y value.now) pinned.old pinned.new) }
 {
     // most values have no parts
     if !has_parts(value) {
         return Ok(());
     }
-    pin_in_bags_of_node(pinned, &value.node())
+    pin_in_bags_of_node(pinned, in_sets, &value.node())
 }
 
-/// Pins the instances that occur, at any depth, in a SET or BAG that is the value of a node or is
-/// inside it.
+/// Pins the instances that occur, at any depth, in a SET or BAG that pins them and that is the value
+/// of a node or is inside it.
 #[cycle(bags)]
 #[inline(never)]
-fn pin_in_bags_of_node(pinned: &mut Vec<u64>, node: &Node<'_, '_>) -> Result<(), AllocError>
-    ensures { OnOk result (Pins (λ y. InBag y (node_value node.now)) pinned.old pinned.new) }
+fn pin_in_bags_of_node(
+    pinned: &mut Vec<u64>,
+    in_sets: bool,
+    node: &Node<'_, '_>,
+) -> Result<(), AllocError>
+    ensures { OnOk result
+        (Pins (λ y. InBag in_sets y (node_value node.now)) pinned.old pinned.new) }
 {
     match node {
-        Node::Typed(_, inner) => pin_in_bags(pinned, inner),
-        Node::Sequence(values) => pin_in_bags_of_each(pinned, values),
-        Node::Bag(values) => pin_each_target(pinned, values),
+        Node::Typed(_, inner) => pin_in_bags(pinned, in_sets, inner),
+        Node::Sequence(values) => pin_in_bags_of_each(pinned, in_sets, values),
+        Node::Bag(values) => {
+            if pins_members(in_sets, values) {
+                pin_each_target(pinned, values)
+            } else {
+                pin_in_bags_of_each(pinned, in_sets, values)
+            }
+        }
         _ => Ok(()),
     }
 }
 
-/// Pins the instances that occur, at any depth, in a SET or BAG that is one of these values or is
-/// inside one.
+/// Pins the instances that occur, at any depth, in a SET or BAG that pins them and that is one of
+/// these values or is inside one.
 #[cycle(bags)]
-fn pin_in_bags_of_each(pinned: &mut Vec<u64>, values: &Slots<'_, '_>) -> Result<(), AllocError>
-    ensures { OnOk result (Pins (λ y. InBagOf y values.now) pinned.old pinned.new) }
+fn pin_in_bags_of_each(
+    pinned: &mut Vec<u64>,
+    in_sets: bool,
+    values: &Slots<'_, '_>,
+) -> Result<(), AllocError>
+    ensures { OnOk result (Pins (λ y. InBagOf in_sets y values.now) pinned.old pinned.new) }
 {
     for i in 0..values.len() {
-        pin_in_bags(pinned, &values.at(i))?;
+        pin_in_bags(pinned, in_sets, &values.at(i))?;
     }
     Ok(())
 }

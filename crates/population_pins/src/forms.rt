@@ -1,9 +1,8 @@
 //! What pins the instances of a form, and what they pin.
 
-ghost use Rattle.std.specs.Prelude.{◌≡◌, ◌++◌, filter_map, IfOk, OnOk};
-ghost use Rattle.std.specs.List.{AllZip};
-ghost use Rattle.graphs.specs.Graphs.{graph_of, next};
-ghost use Rattle.population_forms.specs.steps.Marked.{is_above};
+ghost use Rattle.std.specs.Prelude.{◌≡◌, ◌++◌, ◌&&◌, not, filter_map, IfOk, OnOk};
+ghost use Rattle.std.specs.List.{AllZip, list_any};
+ghost use Rattle.graphs.specs.Graphs.{graph_of};
 ghost use Rattle.typed_populations.specs.ValueOrder.{position_among};
 ghost use Rattle.population_pins.specs.steps.Forms.{
   has_unchosen_leaf,
@@ -12,7 +11,10 @@ ghost use Rattle.population_pins.specs.steps.Forms.{
   keys_by,
   IsFormRules,
 };
+ghost use Rattle.population_pins.specs.steps.SupertypeLists.{IsTransitive, AreClear, is_marked};
+ghost use Rattle.merge_choices.specs.ChosenEntities.{is_chosen};
 
+use crate::supertype_marks::SupertypeMarks;
 use merge_choices::choice::Chosen;
 use population_rows::form::{Form, SlotForm};
 use schema_constraints::uniques::UniqueRule;
@@ -38,30 +40,32 @@ pub(crate) struct Sources<'r, 's> {
     pub(crate) uniques: &'r [UniqueRule<'s>],
 }
 
-/// Returns the row with this number; empty if there is none.
-fn row_at(rows: &[Vec<u32>], number: u32) -> &[u32]
-    ensures { result.now ≡ next (graph_of rows.now) number }
+/// Whether one of these types is neither chosen nor marked.
+fn has_unchosen(marks: &SupertypeMarks, chosen: &Chosen, types: &[u32]) -> bool
+    ensures { result
+        ≡ list_any (λ i. not (is_chosen chosen.now i) && not (is_marked marks.now i)) types.now }
 {
-    match rows.get(number as usize) {
-        Some(row) => row,
-        None => &[],
-    }
+    types.iter().any(|entity| !chosen.contains(*entity) && !marks.contains(*entity))
 }
 
-/// Whether one of these types is a proper subtype of an entity.
-fn has_subtype(above: &[Vec<u32>], types: &[u32], entity: u32) -> bool
-    ensures { result ≡ is_above (graph_of above.now) types.now entity }
+/// Whether one of these types that has no subtype among them isn't chosen. All marks are clear
+/// before and after.
+fn has_unchosen_leaf(
+    marks: &mut SupertypeMarks,
+    above: &[Vec<u32>],
+    chosen: &Chosen,
+    types: &[u32],
+) -> Result<bool, AllocError>
+    requires above { IsTransitive (graph_of above.now) }
+    requires clear { AreClear (graph_of above.now) marks.old }
+    ensures leaf { IfOk result (λ b. b
+        ≡ has_unchosen_leaf (graph_of above.now) chosen.now types.now) }
+    ensures clear { OnOk result (AreClear (graph_of above.now) marks.new) }
 {
-    types
-        .iter()
-        .any(|number| row_at(above, *number).contains(&entity))
-}
-
-/// Whether one of these types that has no subtype among them isn't chosen.
-fn has_unchosen_leaf(above: &[Vec<u32>], chosen: &Chosen, types: &[u32]) -> bool
-    ensures { result ≡ has_unchosen_leaf (graph_of above.now) chosen.now types.now }
-{
-    types.iter().any(|entity| !chosen.contains(*entity) && !has_subtype(above, types, *entity))
+    marks.mark_above(above, types)?;
+    let is_found = has_unchosen(marks, chosen, types);
+    marks.clear();
+    Ok(is_found)
 }
 
 /// Whether one of these types declares a uniqueness rule.
@@ -110,11 +114,19 @@ fn keys_of(alloc: Global, uniques: &[UniqueRule<'_>], form: &Form) -> Result<Vec
     Ok(keys)
 }
 
-/// Returns the rules of a form.
-fn rules_of(alloc: Global, sources: &Sources<'_, '_>, form: &Form) -> Result<FormRules, AllocError>
-    ensures { IfOk result (IsFormRules sources.now form.now) }
+/// Returns the rules of a form. All marks are clear before and after.
+fn rules_of(
+    alloc: Global,
+    sources: &Sources<'_, '_>,
+    form: &Form,
+    marks: &mut SupertypeMarks,
+) -> Result<FormRules, AllocError>
+    requires above { IsTransitive (graph_of sources.now.above.now) }
+    requires clear { AreClear (graph_of sources.now.above.now) marks.old }
+    ensures rules { IfOk result (IsFormRules sources.now form.now) }
+    ensures clear { OnOk result (AreClear (graph_of sources.now.above.now) marks.new) }
 {
-    let is_unchosen = has_unchosen_leaf(sources.above, sources.chosen, &form.types);
+    let is_unchosen = has_unchosen_leaf(marks, sources.above, sources.chosen, &form.types)?;
     let is_pinned = is_unchosen || states_rule(sources.uniques, &form.types);
     let keys = keys_of(alloc, sources.uniques, form)?;
     Ok(FormRules { is_pinned, keys })
@@ -126,11 +138,13 @@ pub(crate) fn rules_by_form(
     sources: &Sources<'_, '_>,
     forms: &[Form],
 ) -> Result<Vec<FormRules>, AllocError>
+    requires { IsTransitive (graph_of sources.now.above.now) }
     ensures { IfOk result (λ t. AllZip (IsFormRules sources.now) forms.now t.items) }
 {
+    let mut marks = SupertypeMarks::of(alloc, sources.above)?;
     let mut rows = Vec::with_capacity(alloc, forms.len())?;
     for form in forms {
-        rows.push(rules_of(alloc, sources, form)?)?;
+        rows.push(rules_of(alloc, sources, form, &mut marks)?)?;
     }
     Ok(rows)
 }

@@ -15,6 +15,7 @@ pub mod pinned_names;
 mod rows;
 mod sides;
 mod slots;
+mod supertype_marks;
 pub mod targets;
 mod unique_elements;
 mod unique_holders;

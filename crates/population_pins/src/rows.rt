@@ -1,11 +1,12 @@
 //! Pinning what forms, uniqueness rules, SETs and BAGs pin, instance by instance.
 
-ghost use Rattle.std.specs.Prelude.{List, OnOk};
+ghost use Rattle.std.specs.Prelude.{OnOk};
 ghost use Rattle.express_syntax.specs.Schemas.{Schema};
-ghost use Rattle.schema_semantics.specs.Names.{Name, OneOf};
+ghost use Rattle.schema_semantics.specs.Names.{OneOf};
 ghost use Rattle.schema_names.specs.Schemas.{the_schema};
 ghost use Rattle.schema_types.specs.TypeTables.{IsMade};
 ghost use Rattle.merge_choices.specs.ChosenEntities.{AreChosen};
+ghost use Rattle.conformance.specs.Choices.{Mergeable};
 ghost use Rattle.conformance.specs.Entities.{Entities, AreEntities};
 ghost use Rattle.conformance.specs.CollectionMembers.{InBag};
 ghost use Rattle.conformance.specs.Pins.{OccursAt};
@@ -41,20 +42,22 @@ fn pin_keys(pinned: &mut Vec<u64>, keys: &[usize], values: &Slots<'_, '_>) -> Re
     Ok(())
 }
 
-/// Pins the instances that occur in SETs and BAGs among the values of these attributes.
+/// Pins the instances that occur in SETs and BAGs that pin them, among the values of these
+/// attributes.
 fn pin_bags(
     pinned: &mut Vec<u64>,
+    in_sets: bool,
     slots: &[SlotForm],
     values: &Slots<'_, '_>,
 ) -> Result<(), AllocError>
-    ensures { (s : Schema) → OnOk result (Pins (λ y. OneOf (λ x. InBag y x.value)
+    ensures { (s : Schema) → OnOk result (Pins (λ y. OneOf (λ x. InBag in_sets y x.value)
         (slots_seen s slots.now values.now)) pinned.old pinned.new) }
 {
     for i in 0..slots.len() {
         let Some(value) = values.item(i) else {
             return Ok(());
         };
-        pin_in_bags(pinned, &value)?;
+        pin_in_bags(pinned, in_sets, &value)?;
     }
     Ok(())
 }
@@ -72,27 +75,29 @@ fn pin_itself(pinned: &mut Vec<u64>, rules: &FormRules, name: u64) -> Result<(),
 /// Pins what an instance of this form pins by the rules of its form.
 fn pin_instance(
     pinned: &mut Vec<u64>,
+    in_sets: bool,
     form: &Form,
     rules: &FormRules,
     instance: &InstanceRow<'_, '_>,
 ) -> Result<(), AllocError>
-    ensures { (s : Schema) → OnOk result (Pins (PinnedBy s form.now rules.now instance.now.name
-        instance.now.values) pinned.old pinned.new) }
+    ensures { (s : Schema) → OnOk result (Pins (PinnedBy s in_sets form.now rules.now
+        instance.now.name instance.now.values) pinned.old pinned.new) }
 {
     pin_itself(pinned, rules, instance.name)?;
     pin_keys(pinned, &rules.keys, &instance.values)?;
-    pin_bags(pinned, &form.slots, &instance.values)
+    pin_bags(pinned, in_sets, &form.slots, &instance.values)
 }
 
 /// Pins what an instance pins by the rules of its form, if it has a form.
 fn pin_row(
     pinned: &mut Vec<u64>,
+    in_sets: bool,
     forms: &[Form],
     rows: &[FormRules],
     instance: &InstanceRow<'_, '_>,
 ) -> Result<(), AllocError>
-    ensures { (s : Schema) → OnOk result (Pins (PinnedAmong s forms.now rows.now instance.now.form
-        instance.now.name instance.now.values) pinned.old pinned.new) }
+    ensures { (s : Schema) → OnOk result (Pins (PinnedAmong s in_sets forms.now rows.now
+        instance.now.form instance.now.name instance.now.values) pinned.old pinned.new) }
 {
     let Some(number) = instance.form else {
         return Ok(());
@@ -103,7 +108,7 @@ fn pin_row(
     let Some(rules) = rows.get(number as usize) else {
         return Ok(());
     };
-    pin_instance(pinned, form, rules, instance)
+    pin_instance(pinned, in_sets, form, rules, instance)
 }
 
 /// Pins what instances pin by their types, by uniqueness rules, and by SETs and BAGs.
@@ -116,11 +121,11 @@ pub(crate) fn pin_by_forms(
 ) -> Result<(), AllocError>
     requires made { IsMade population.now.types.now }
     requires numbered { AreNumbered (the_schema population.now.types.now.names) rules.now }
-    ensures { (en : Entities) (names : List Name)
+    ensures { (en : Entities) (those : Mergeable)
         → AreEntities (the_schema population.now.types.now.names) en
-        → AreChosen (the_schema population.now.types.now.names) names chosen.now
+        → AreChosen (the_schema population.now.types.now.names) those chosen.now
         → OnOk result (Pins (λ y. OneOf
-        (PinsByForm (the_schema population.now.types.now.names) en names
+        (PinsByForm (the_schema population.now.types.now.names) en those
         (rules_seen (the_schema population.now.types.now.names) rules.now).uniques y)
         (population_seen population.now)) pinned.old pinned.new) }
 {
@@ -132,7 +137,7 @@ pub(crate) fn pin_by_forms(
     let rows = rules_by_form(alloc, &sources, population.forms())?;
     for row in 0..population.len() {
         let instance = population.instance(row);
-        pin_row(pinned, population.forms(), &rows, &instance)?;
+        pin_row(pinned, chosen.in_sets, population.forms(), &rows, &instance)?;
     }
     Ok(())
 }

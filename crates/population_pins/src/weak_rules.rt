@@ -1,10 +1,10 @@
 //! The pins of a population by the weak rules.
 
-ghost use Rattle.std.specs.Prelude.{ℕ, List, IsTrue, ◌↔◌, IfOk};
-ghost use Rattle.schema_semantics.specs.Names.{Name};
+ghost use Rattle.std.specs.Prelude.{ℕ, IsTrue, ◌↔◌, IfOk};
 ghost use Rattle.schema_names.specs.Schemas.{the_schema};
 ghost use Rattle.schema_types.specs.TypeTables.{IsMade};
 ghost use Rattle.conformance.specs.Bases.{Domain, IsDomain};
+ghost use Rattle.conformance.specs.Choices.{Mergeable};
 ghost use Rattle.conformance.specs.Entities.{Entities, AreEntities};
 ghost use Rattle.conformance.specs.Pins.{IsWeaklyPinned};
 ghost use Rattle.schema_constraints.specs.RuleViews.{AreNumbered, rules_seen};
@@ -25,7 +25,8 @@ use std::alloc::{AllocError, Global};
 
 /// Returns the pins of a population by the weak rules. An instance is pinned if
 /// - one of its types that has no subtype among them isn't chosen;
-/// - it occurs, at any depth, in a SET or BAG;
+/// - it occurs, at any depth, in a SET or BAG; if `chosen` says `in_sets`, in one of more than one
+///   value;
 /// - it occurs inside an element of a LIST or ARRAY OF UNIQUE, and isn't that element itself;
 /// - it is an instance of an entity that declares a uniqueness rule, or occurs in a value that the
 ///   rule names, whether or not the rule is checked;
@@ -41,14 +42,14 @@ pub fn pins(
     requires made { IsMade extents.now.population.now.types.now }
     requires numbered { AreNumbered
         (the_schema extents.now.population.now.types.now.names) extents.now.rules.now }
-    ensures pins { (d : Domain) (en : Entities) (names : List Name)
+    ensures pins { (d : Domain) (en : Entities) (those : Mergeable)
         → IsDomain (the_schema extents.now.population.now.types.now.names) d
         → AreEntities (the_schema extents.now.population.now.types.now.names) en
-        → AreChosen (the_schema extents.now.population.now.types.now.names) names chosen.now
+        → AreChosen (the_schema extents.now.population.now.types.now.names) those chosen.now
         → IfOk result (λ t. (y : ℕ) → IsTrue (is_pinned t.pins y) ↔ IsWeaklyPinned
         (the_schema extents.now.population.now.types.now.names) d en
         (rules_seen (the_schema extents.now.population.now.types.now.names)
-        extents.now.rules.now) names (population_seen extents.now.population.now) y) }
+        extents.now.rules.now) those (population_seen extents.now.population.now) y) }
     // Whatever the classes of instances, these lists decide the gentle rules.
     ensures lists { IfOk result (λ t. AreUniqueOf
         (the_schema extents.now.population.now.types.now.names)

@@ -289,6 +289,7 @@ fn choice(alloc: Global, given: Given) -> Result<Choice, AllocError> {
     };
     Ok(Choice {
         names,
+        in_sets: false,
         strict: false,
     })
 }

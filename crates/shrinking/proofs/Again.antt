@@ -7,10 +7,9 @@ use Rattle.express_syntax.specs.Schemas.{Schema}
 use Rattle.express_syntax.specs.declared.fault.SchemaFault.{SchemaFault}
 use Rattle.express_syntax.specs.declared.fault.SchemaFault.TheVariants as schemas
 use Rattle.express_syntax.proofs.UniqueSchemas.{one_schema}
-use Rattle.schema_semantics.specs.Names.{Name}
 use Rattle.schema_semantics.specs.Parts.{AreUnchecked}
 use Rattle.schema_unchecked_declarations.specs.UncheckedLists.{unchecked_in}
-use Rattle.conformance.specs.Choices.{Choice, chosen_names, unknown_choice}
+use Rattle.conformance.specs.Choices.{Choice, mergeable, unknown_choice}
 use Rattle.conformance.specs.SchemaMeanings.{FileConforms}
 use Rattle.file_findings.specs.Findings.{ConformsWhereNothingIsFound}
 use Rattle.merge_theorems.specs.Headline.{SecondMergesStay}
@@ -42,7 +41,7 @@ own_outputs_pass law s chosen bytes output merged =
 
 module _ (c : Choice) (strict : Bool) (text bytes output certificate : List ℕ) (s : Schema) (m : Summary)
     (has : IsResolvedSchemaText s text) (passes : Passes strict s) (known : unknown_choice s c ≡ None)
-    (done : IsDone s (chosen_names s c) bytes output certificate m) where
+    (done : IsDone s (mergeable s c) bytes output certificate m) where
   -- the second run reads the same schema
   one : (t : Schema) → IsResolvedSchemaText t text → t ≡ s
   one t other = one_schema text t s other.reads has.reads
@@ -57,23 +56,23 @@ module _ (c : Choice) (strict : Bool) (text bytes output certificate : List ℕ)
   stays : OwnOutputsPass → SecondMergesStay → (again recertified : List ℕ) (r : Result Summary Fault)
       → ShrinkAnswers c strict text output again recertified r → Stays output again r
   stays own stay again recertified (Ok n) h =
-      let redone : IsDone s (chosen_names s c) output again recertified n =
-      subst (λ u. IsDone u (chosen_names u c) output again recertified n) (one h.0 h.1) h.4 in
+      let redone : IsDone s (mergeable s c) output again recertified n =
+      subst (λ u. IsDone u (mergeable u c) output again recertified n) (one h.0 h.1) h.4 in
       let said = done.merged.some_said in
-      stay s said (chosen_names s c) bytes output again (done.merged.merge said) (redone.merged.merge said)
+      stay s said (mergeable s c) bytes output again (done.merged.merge said) (redone.merged.merge said)
   stays own stay again recertified (Err (faults.Schema f)) (inl h, none) = absurd (no_schema_fault text s has f h)
   stays own stay again recertified (Err (faults.Schema f)) (inr h, none) = absurd (not_unknown h.0 f (one h.0 h.1) h.3)
   stays own stay again recertified (Err (faults.Unchecked us)) (h, none) =
       absurd (none_unchecked s us.items (passes h.2)
       (subst (λ u. ∥ AreUnchecked u (unchecked_in us.items) ∥₁) (one h.0 h.1) h.3) h.4)
   stays own stay again recertified (Err (faults.Text roles.File kind place)) h =
-      (own s (chosen_names s c) bytes output done.merged).0 kind place h.4.0
+      (own s (mergeable s c) bytes output done.merged).0 kind place h.4.0
   stays own stay again recertified (Err (faults.Text roles.Schema kind place)) h = absurd h.4
   stays own stay again recertified (Err (faults.Text roles.Output kind place)) h = absurd h.4
   stays own stay again recertified (Err (faults.Text roles.Certificate kind place)) h = absurd h.4
   stays own stay again recertified (Err (faults.Findings r)) h =
       let f : File = h.4.0.0 in
-      absurd (h.4.0.3 ((own s (chosen_names s c) bytes output done.merged).1 f r h.4.0.1
+      absurd (h.4.0.3 ((own s (mergeable s c) bytes output done.merged).1 f r h.4.0.1
       (subst (λ u. IsReport u f r) (one h.0 h.1) h.4.0.2)))
   stays own stay again recertified (Err (faults.Refused role findings rules)) h = absurd h.4
   stays own stay again recertified (Err (faults.Certificate refusal)) h = absurd h.4

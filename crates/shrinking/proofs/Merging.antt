@@ -17,7 +17,7 @@ use Rattle.value_equality.specs.Standard.{IsStandard}
 use Rattle.value_equality.proofs.Rounds.{standard_is_valid, tables_decide}
 use Rattle.value_equality.proofs.Few.{rounds_are_few}
 use Rattle.express_syntax.specs.Schemas.{Schema}
-use Rattle.schema_semantics.specs.Names.{Name}
+use Rattle.conformance.specs.Choices.{Mergeable}
 use Rattle.conformance.specs.declared.finding.Finding.{Finding}
 use Rattle.conformance.specs.SchemaMeanings.{Said}
 use Rattle.schema_constraints.specs.declared.finding.RuleFinding.{RuleFinding}
@@ -53,13 +53,13 @@ same_findings s f fs gs n unknown none no_rules same found =
     (subst (λ k. AreFindings s f [] [] k) (sym same) found))
 
 -- a file of which nothing is found, and its tables
-pub record IsTabled (s : Schema) (chosen : List Name) (bytes : List ℕ) (x : Exchange) (unknown : ℕ) (first second : Table)
+pub record IsTabled (s : Schema) (chosen : Mergeable) (bytes : List ℕ) (x : Exchange) (unknown : ℕ) (first second : Table)
     : Type 0 where
   pub reads : ReadsAs bytes x.header_bytes.now (structure x)
   pub found : AreFindings s (structure x) [] [] unknown
   pub tables : (said : Said s) → AreTablesOf s said chosen (structure x) first second
 
-module _ (s : Schema) (chosen : List Name) (bytes : List ℕ) (x : Exchange) (unknown : ℕ) (first second : Table)
+module _ (s : Schema) (chosen : Mergeable) (bytes : List ℕ) (x : Exchange) (unknown : ℕ) (first second : Table)
     (conforming : ConformsWhereNothingIsFound) (least : MergesAreLeast)
     (tabled : IsTabled s chosen bytes x unknown first second) where
   input : (said : Said s) → IsMergeInput s said chosen bytes

@@ -12,12 +12,11 @@ use Rattle.step_structures.proofs.Once.{reads_once}
 use Rattle.express_syntax.specs.Schemas.{Schema}
 use Rattle.express_syntax.specs.declared.fault.SchemaFault.{SchemaFault}
 use Rattle.express_syntax.specs.declared.fault.SchemaFault.TheVariants as schemas
-use Rattle.schema_semantics.specs.Names.{Name}
 use Rattle.schema_semantics.specs.Parts.{AreUnchecked}
 use Rattle.schema_semantics.proofs.Listed.{unchecked-are-one}
 use Rattle.schema_unchecked_declarations.specs.UncheckedLists.{unchecked_in, unchecked_of}
 use Rattle.schema_unchecked_declarations.specs.declared.list.Unchecked.{Unchecked as Part}
-use Rattle.conformance.specs.Choices.{Choice, chosen_names, unknown_choice}
+use Rattle.conformance.specs.Choices.{Choice, mergeable, unknown_choice, Mergeable}
 use Rattle.conformance.specs.SchemaMeanings.{Said, FileConforms}
 use Rattle.file_findings.specs.Findings.{ConformsWhereNothingIsFound}
 use Rattle.value_equality.specs.Laws.{StandardIsUnique}
@@ -60,7 +59,7 @@ as_many s us vs h k =
     ∙ length-map vs unchecked_of))
 
 -- A file is merged in one way, and one thing is said of that.
-module _ (s : Schema) (chosen : List Name) (bytes output certificate again recertified : List ℕ) (m n : Summary)
+module _ (s : Schema) (chosen : Mergeable) (bytes output certificate again recertified : List ℕ) (m n : Summary)
     (reports : ReportsAreOne) (tables : StandardIsUnique)
     (done : IsDone s chosen bytes output certificate m) (redone : IsDone s chosen bytes again recertified n) where
   abbrev said : Said s
@@ -126,7 +125,7 @@ module _ (c : Choice) (strict : Bool) (text bytes : List ℕ) where
     AtFound s f =
         (((p : Report) × (r ≡ Err (faults.Findings p)) × IsReport s f p × (IsClean p → ⊥))
         × AreUnwritten output certificate)
-        ⊎ ((m : Summary) × (r ≡ Ok m) × IsDone s (chosen_names s c) bytes output certificate m)
+        ⊎ ((m : Summary) × (r ≡ Ok m) × IsDone s (mergeable s c) bytes output certificate m)
 
     -- the text of the file
     abbrev AtFile : Schema → Type 0
@@ -189,10 +188,10 @@ module _ (c : Choice) (strict : Bool) (text bytes : List ℕ) where
 
   -- a file that is merged has no findings
   merged_is_clean : ConformsWhereNothingIsFound → (s : Schema) (f : File) (output certificate : List ℕ) (m : Summary) (p : Report)
-      → IsDone s (chosen_names s c) bytes output certificate m → HasFile f bytes → IsReport s f p → IsClean p
+      → IsDone s (mergeable s c) bytes output certificate m → HasFile f bytes → IsReport s f p → IsClean p
   merged_is_clean law s f output certificate m p done has report =
       let said : Said s = done.merged.some_said in
-      let input : IsMergeInput s said (chosen_names s c) bytes = (done.merged.merge said).input in
+      let input : IsMergeInput s said (mergeable s c) bytes = (done.merged.merge said).input in
       let one = reads_once bytes input.header_bytes has.header_bytes input.file f input.reads has.reads in
       (law s said f p.findings.items p.rule_findings.items p.unknown report.findings).1
       (subst (FileConforms s said) one.1 input.conforms)
@@ -220,7 +219,7 @@ module _ (c : Choice) (strict : Bool) (text bytes : List ℕ) where
         absurd (b.0.3 (merged_is_clean law s f output certificate a.0 b.0.0 a.2 has b.0.2))
     at_found s f has (inr a) (inr b) =
         let one =
-        done_once s (chosen_names s c) bytes output certificate again recertified a.0 b.0 reports tables a.2 b.2 in
+        done_once s (mergeable s c) bytes output certificate again recertified a.0 b.0 reports tables a.2 b.2 in
         (says r q (Ok a.0) (Ok b.0) a.1 b.1 one.0, one.1, one.2)
 
     at_file : (s : Schema) → AtFile output certificate r s → AtFile again recertified q s → AreTheSame

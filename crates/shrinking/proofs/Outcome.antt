@@ -7,7 +7,6 @@ use Rattle.step_exchange.specs.declared.structure.Exchange.{Exchange}
 use Rattle.value_equality.specs.TableViews.{table_of}
 use Rattle.value_equality.specs.declared.table.Table.{Table}
 use Rattle.express_syntax.specs.Schemas.{Schema}
-use Rattle.schema_semantics.specs.Names.{Name}
 use Rattle.file_findings.specs.Findings.{AreFindings}
 use Rattle.file_findings.specs.declared.findings.Found.{Found}
 use Rattle.merge_tables.specs.steps.Merges.{Merges, last_of}
@@ -19,9 +18,10 @@ use Rattle.checking.specs.Reporting.{IsReport}
 use Rattle.shrinking.specs.steps.ComputedAnswers.{FileShrinks}
 use Rattle.shrinking.proofs.Answering.{idle, unwritten}
 use Rattle.shrinking.proofs.Merging.{IsTabled}
+use Rattle.conformance.specs.Choices.{Mergeable}
 
 -- something is found
-pub faulty : (s : Schema) (chosen : List Name) (bytes : List ℕ) (x : Exchange) (out cert : Option (List ℕ)) (m : Merging)
+pub faulty : (s : Schema) (chosen : Mergeable) (bytes : List ℕ) (x : Exchange) (out cert : Option (List ℕ)) (m : Merging)
     (found : Found) (r : Report) → m ≡ Faulty found → Merges s chosen (structure x) m → length bytes ≤ 2 ^ 40
     → ReadsAs bytes x.header_bytes.now (structure x)
     → (AreFindings s (structure x) found.findings.items found.rules.findings.items found.rules.unknown
@@ -42,7 +42,7 @@ faulty s chosen bytes x out cert m found r is merges within reads report same sa
     )
 
 -- nothing is
-pub is_tabled : (s : Schema) (chosen : List Name) (bytes : List ℕ) (x : Exchange) (m : Merging) (unknown : ℕ)
+pub is_tabled : (s : Schema) (chosen : Mergeable) (bytes : List ℕ) (x : Exchange) (m : Merging) (unknown : ℕ)
     (first : Table) (second : Option Table) (last : Table) → m ≡ Clean unknown first second
     → last ≡ last_of first second → Merges s chosen (structure x) m → ReadsAs bytes x.header_bytes.now (structure x)
     → IsTabled s chosen bytes x unknown (table_of first) (table_of last)

@@ -3,8 +3,7 @@ use Rattle.std.specs.Prelude.{◌≡◌, ◌<◌, ◌^◌, ℕ, Bool, List, leng
 use Rattle.step_structures.specs.declared.fault.FaultKind.{FaultKind}
 use Rattle.step_structures.specs.Trees.{File}
 use Rattle.express_syntax.specs.Schemas.{Schema}
-use Rattle.schema_semantics.specs.Names.{Name}
-use Rattle.conformance.specs.Choices.{Choice}
+use Rattle.conformance.specs.Choices.{Choice, Mergeable}
 use Rattle.files.specs.declared.fault.Role.TheVariants as roles
 use Rattle.reports.specs.Lines.{unchecked_line, report_text}
 use Rattle.reports.specs.declared.report.Report.{Report}
@@ -19,7 +18,7 @@ use Rattle.shrinking.specs.Shrinking.{IsClean, IsMergedFile, ShrinkAnswers, Shri
 
 -- An output has no findings. Its text has no fault, except that it may be larger than 2^40 bytes.
 abbrev pub OwnOutputsPass : Type 0
-OwnOutputsPass = (s : Schema) (chosen : List Name) (bytes output : List ℕ) → IsMergedFile s chosen bytes output
+OwnOutputsPass = (s : Schema) (chosen : Mergeable) (bytes output : List ℕ) → IsMergedFile s chosen bytes output
     → ((kind : FaultKind) (place : ℕ) → HasFileFault kind place output → 2 ^ 40 < length output)
     × ((f : File) (r : Report) → HasFile f output → IsReport s f r → IsClean r)
 

@@ -3,7 +3,7 @@
 ghost use Rattle.std.specs.Prelude.{◌≡◌, ◌≤◌, ◌^◌, ℕ, List, [], false, length};
 ghost use Rattle.schema_names.specs.Schemas.{the_schema};
 ghost use Rattle.schema_resolution.specs.SoundGraphs.{IsSound};
-ghost use Rattle.schema_semantics.specs.Names.{Name};
+ghost use Rattle.conformance.specs.Choices.{Mergeable};
 ghost use Rattle.value_equality.specs.TableViews.{table_of};
 ghost use Rattle.step_structures.specs.Texts.{ReadsAs};
 ghost use Rattle.step_exchange.specs.Exchanges.{structure};
@@ -111,11 +111,11 @@ pub(crate) fn shrink_exchange<'s: 'a, 'a, O: Sink, C: Sink>(
     certificate: &mut C,
 ) -> Result<Summary<'s>, Fault<'s>>
     requires sound { IsSound graph }
-    ensures shrinks { (names : List Name)
-        → AreChosen (the_schema graph.entry.types.names) names chosen.now
+    ensures shrinks { (those : Mergeable)
+        → AreChosen (the_schema graph.entry.types.names) those chosen.now
         → (bytes : List ℕ) → length bytes ≤ 2 ^ 40
         → ReadsAs bytes exchange.now.header_bytes.now (structure exchange.now)
-        → FileShrinks (the_schema graph.entry.types.names) names bytes
+        → FileShrinks (the_schema graph.entry.types.names) those bytes
         (written_to O.held out.old out.new) (written_to C.held certificate.old certificate.new)
         result }
     ensures no_schema_fault { is_device roles.Schema result ≡ false }

@@ -14,7 +14,7 @@ ghost use Rattle.std.specs.Prelude.{
 };
 ghost use Rattle.schema_names.specs.Schemas.{the_schema};
 ghost use Rattle.schema_resolution.specs.SoundGraphs.{IsSound};
-ghost use Rattle.schema_semantics.specs.Names.{Name};
+ghost use Rattle.conformance.specs.Choices.{Mergeable};
 ghost use Rattle.merge_choices.specs.ChosenEntities.{AreChosen, choice_of};
 ghost use Rattle.checking.specs.Checks.{IsResolvedSchemaText};
 ghost use Rattle.files.specs.declared.fault.Role.TheVariants as roles;
@@ -48,9 +48,9 @@ fn shrink_file<'s, O: Sink, C: Sink>(
 ) -> Result<Summary<'s>, Fault<'s>>
     requires sound { IsSound graph }
     requires within { length bytes.now ≤ 2 ^ 40 }
-    ensures shrinks { (names : List Name)
-        → AreChosen (the_schema graph.entry.types.names) names chosen.now
-        → FileShrinks (the_schema graph.entry.types.names) names bytes.now
+    ensures shrinks { (those : Mergeable)
+        → AreChosen (the_schema graph.entry.types.names) those chosen.now
+        → FileShrinks (the_schema graph.entry.types.names) those bytes.now
         (written_to O.held out.old out.new) (written_to C.held certificate.old certificate.new)
         result }
     ensures no_schema_fault { is_device roles.Schema result ≡ false }
@@ -77,9 +77,9 @@ fn shrink_source<'s, F: Source, O: Sink, C: Sink>(
     certificate: &mut C,
 ) -> Result<Summary<'s>, Fault<'s>>
     requires sound { IsSound graph }
-    ensures shrinks { (names : List Name)
-        → AreChosen (the_schema graph.entry.types.names) names chosen.now
-        → SourceShrinks (the_schema graph.entry.types.names) names (F.to_come file.old)
+    ensures shrinks { (those : Mergeable)
+        → AreChosen (the_schema graph.entry.types.names) those chosen.now
+        → SourceShrinks (the_schema graph.entry.types.names) those (F.to_come file.old)
         (written_to O.held out.old out.new) (written_to C.held certificate.old certificate.new)
         result }
     ensures no_schema_fault { is_device roles.Schema result ≡ false }

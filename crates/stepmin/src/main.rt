@@ -10,13 +10,16 @@
 use command_line::command_words::{Refusal, Request, read_words, unread_words};
 use command_line::merge_words::ShrinkRequest;
 use commands::command::{refuse, refuse_to_read, run_command};
+use commands::ending::report;
 use devices::counted::Counted;
 use devices::device::Sink;
+use file_store::clash::{Clash, Paths, clash_of};
 use file_store::folder::Folder;
-use file_store::path_identity::lead_to_one;
-use files::fault::print_line;
+use file_store::standard_streams::hold_closed_streams;
+use files::fault::{FileFault, print_line};
 use std::alloc::Global;
 use std::env::Env;
+use std::fs::File;
 use std::hash::RandomState;
 use std::io;
 use std::process::ExitCode;
@@ -37,7 +40,7 @@ fn words<R: Env + AllocGlobal>(rt: &R) -> io::Result<Vec<String>> {
 
 // Puts the written files of a run in place if its status is 0, otherwise removes them. A file that
 // can't be put in place is a device that fails.
-fn settled<R: Files, E: Sink>(store: Folder<'_, R>, status: u8, err: &mut E) -> u8 {
+fn settled<R: Files<File = File>, E: Sink>(store: Folder<'_, R>, status: u8, err: &mut E) -> u8 {
     if status != DONE {
         store.abandon();
         return status;
@@ -51,12 +54,14 @@ fn settled<R: Files, E: Sink>(store: Folder<'_, R>, status: u8, err: &mut E) -> 
     }
 }
 
-// Returns the message for a request of `shrink` whose paths lead to the same file although their
-// texts differ, if any. Such a run would lose what it reads, or one of the files that it writes.
-// OUT may lead to FILE.
-fn clash<R: Files>(alloc: Global, rt: &R, asked: &Request<'_>) -> Option<&'static str> {
+// Returns the first clash of the files of a request of `shrink`, if any.
+fn first_clash<R: Files>(
+    alloc: Global,
+    rt: &R,
+    asked: &Request<'_>,
+) -> Result<Option<Clash>, FileFault> {
     let Request::Shrink(asked) = *asked else {
-        return None;
+        return Ok(None);
     };
     let ShrinkRequest {
         schema,
@@ -65,32 +70,27 @@ fn clash<R: Files>(alloc: Global, rt: &R, asked: &Request<'_>) -> Option<&'stati
         certificate,
         ..
     } = asked;
-    if lead_to_one(alloc, rt, output, certificate) {
-        return Some("error: OUT and CERT are the same file\n");
-    }
-    if lead_to_one(alloc, rt, schema, output) {
-        return Some("error: SCHEMA and OUT are the same file\n");
-    }
-    if lead_to_one(alloc, rt, schema, certificate) {
-        return Some("error: SCHEMA and CERT are the same file\n");
-    }
-    if lead_to_one(alloc, rt, file, certificate) {
-        return Some("error: FILE and CERT are the same file\n");
-    }
-    None
+    let paths = Paths {
+        schema,
+        file,
+        output,
+        certificate,
+    };
+    clash_of(alloc, rt, paths)
 }
 
-// Returns the refusal of arguments whose paths lead to the same file.
-fn clashing(alloc: Global, text: &str) -> Refusal {
-    match String::from_str(alloc, text) {
+// Returns the refusal of arguments whose files clash.
+fn clashing(alloc: Global, clash: Clash) -> Refusal {
+    match String::from_str(alloc, clash.line()) {
         Ok(text) => Refusal::Usage(text),
         Err(_) => Refusal::Memory,
     }
 }
 
 // Runs the command line, and returns the exit status. The keys to hash names with are requested
-// only if a file is to be read.
-fn run<R: AllocGlobal + RandomSource + Files, O: Sink, E: Sink>(
+// only if a file is to be read. No file is opened under the number of a standard stream that is
+// closed.
+fn run<R: AllocGlobal + RandomSource + Files<File = File>, O: Sink, E: Sink>(
     rt: &R,
     words: &[String],
     out: &mut O,
@@ -100,8 +100,13 @@ fn run<R: AllocGlobal + RandomSource + Files, O: Sink, E: Sink>(
         Ok(asked) => asked,
         Err(refusal) => return refuse(refusal, out, err),
     };
-    if let Some(text) = clash(rt.alloc(), rt, &asked) {
-        return refuse(clashing(rt.alloc(), text), out, err);
+    if hold_closed_streams(rt).is_err() {
+        return refuse_to_read(err);
+    }
+    match first_clash(rt.alloc(), rt, &asked) {
+        Ok(None) => {}
+        Ok(Some(clash)) => return refuse(clashing(rt.alloc(), clash), out, err),
+        Err(fault) => return report(fault, err),
     }
     let Ok(keys) = RandomState::new(rt) else {
         return refuse_to_read(err);

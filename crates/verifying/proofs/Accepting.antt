@@ -6,13 +6,13 @@ use Rattle.value_equality.specs.Rows.{Row}
 use Rattle.value_equality.specs.Tables.{shares}
 use Rattle.value_equality.proofs.Rounds.{tables_decide}
 use Rattle.express_syntax.specs.Schemas.{Schema}
-use Rattle.schema_semantics.specs.Names.{Name}
+use Rattle.conformance.specs.Choices.{Mergeable}
 use Rattle.conformance.specs.SchemaMeanings.{Said}
 use Rattle.merge_theorems.specs.Headline.{IsCheckedOutput, ChecksProve}
 use Rattle.verifying.specs.declared.proof.Proof.{Proof}
 use Rattle.verifying.specs.Verifying.{IsConformingInput, IsOutput, AreRows, BothHold, IsMergedOutput, Proves}
 
-module _ (s : Schema) (chosen : List Name) (input output certificate : List ℕ) (f g : File) (reads : IsConformingInput s input f)
+module _ (s : Schema) (chosen : Mergeable) (input output certificate : List ℕ) (f g : File) (reads : IsConformingInput s input f)
     (out : IsOutput s output g) (b : BothHold s chosen f certificate) (image : List Row) (are : AreRows s g image)
     (merged : IsMergedOutput s chosen f certificate b g image) where
   checked : (said : Said s) → IsCheckedOutput s said chosen input output

@@ -11,7 +11,7 @@ use Rattle.express_syntax.specs.declared.fault.SchemaFault.{SchemaFault}
 use Rattle.express_syntax.specs.declared.fault.SchemaFault.TheVariants as schemas
 use Rattle.schema_semantics.specs.Faults.{IsResolved}
 use Rattle.schema_types.specs.Resolution.{IsNameFault}
-use Rattle.conformance.specs.Choices.{Choice, chosen_names}
+use Rattle.conformance.specs.Choices.{Choice, mergeable}
 use Rattle.conformance.specs.Populations.{Instance}
 use Rattle.step_headings.specs.steps.Views.{AreHeadingsOf}
 use Rattle.step_headings.specs.declared.headings.Headings.{Headings}
@@ -71,12 +71,12 @@ module _ (schema input output certificate : List ℕ) (choice : Choice) where
         unread_output (text_faults.Fault kind place) h = (s, settles, (f, reads, h))
         unread_output text_faults.Memory h = tt
 
-        module _ (j : Result Judged TablesFault) (judged : IsJudgement s (chosen_names s choice) f certificate j)
+        module _ (j : Result Judged TablesFault) (judged : IsJudgement s (mergeable s choice) f certificate j)
             (header_bytes : List ℕ) (g : File) (out : texts.ReadsAs output header_bytes g) (js : List Instance)
             (typed : IsTyped s g js) (hs : Headings) (has : AreHeadingsOf hs f) where
           answered : (r : Result Proof TablesFault) → AnswersTyped s hs j g js r
-              → IsAnswer s (chosen_names s choice) f certificate g r
-          answered r h = h (chosen_names s choice) certificate f has judged
+              → IsAnswer s (mergeable s choice) f certificate g r
+          answered r h = h (mergeable s choice) certificate f has judged
               (λ said. (typed.1 said.domain said.entities said.is_domain said.are_entities).1)
 
           pub refused : (e : TablesFault) → AnswersTyped s hs j g js (Err e)
@@ -90,7 +90,7 @@ module _ (schema input output certificate : List ℕ) (choice : Choice) where
           proved law p h = let a = answered (Ok p) h in (
             s,
             settles,
-            proves s (chosen_names s choice) input output certificate f g reads
+            proves s (mergeable s choice) input output certificate f g reads
                 (output_is s output header_bytes g js out typed) a.both a.image a.are_rows a.merged law p a.instances
                 a.kept a.rounds,
           )

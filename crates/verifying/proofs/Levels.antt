@@ -8,8 +8,7 @@ use Rattle.value_equality.specs.Images.{quotient}
 use Rattle.value_equality.specs.Tables.{Table, shares, IsValid}
 use Rattle.express_syntax.specs.Schemas.{Schema}
 use Rattle.express_syntax.specs.declared.fault.SchemaFault.{SchemaFault}
-use Rattle.schema_semantics.specs.Names.{Name}
-use Rattle.conformance.specs.Choices.{Choice, chosen_names}
+use Rattle.conformance.specs.Choices.{Choice, mergeable, Mergeable}
 use Rattle.conformance.specs.Findings.{findings}
 use Rattle.conformance.specs.PlainRows.{AreRowsOf}
 use Rattle.conformance.specs.Pins.{IsWeaklyPinned, IsGentlyPinned}
@@ -27,7 +26,7 @@ use Rattle.verifying.specs.declared.proof.Proof.{Proof}
 use Rattle.verifying.specs.Verifying.{Settles, IsSchemaFault, IsConformingInput, IsOutput, Lacks}
 
 -- The certificate of an output, by some functions that say what the schema says: each refusal, or a proof.
-module _ (s : Schema) (said : Said s) (chosen : List Name) (f g : File) (r : Result Proof Fault) where
+module _ (s : Schema) (said : Said s) (chosen : Mergeable) (f g : File) (r : Result Proof Fault) where
   abbrev pub IsRefusedBy : Refusal → Type 0
   IsRefusedBy refusal = r ≡ Err (faults.Certificate refusal)
 
@@ -80,7 +79,7 @@ module _ (schema input output certificate : List ℕ) (choice : Choice) (r : Res
   module _ (s : Schema) where
     -- the certificate
     abbrev pub AtCertificate : File → File → Type 0
-    AtCertificate f g = (said : Said s) → AtText s said (chosen_names s choice) f g r certificate
+    AtCertificate f g = (said : Said s) → AtText s said (mergeable s choice) f g r certificate
 
     -- what is found of the output
     abbrev pub AtOutputFound : File → File → Type 0

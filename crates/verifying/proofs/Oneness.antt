@@ -13,7 +13,7 @@ use Rattle.express_syntax.proofs.FirstFault.{reads_no_fault, one_fault}
 use Rattle.schema_semantics.specs.Faults.{IsResolved}
 use Rattle.schema_semantics.proofs.Faults.{faults-are-one}
 use Rattle.schema_types.specs.Resolution.{IsNameFault}
-use Rattle.conformance.specs.Choices.{Choice, chosen_names, unknown_choice}
+use Rattle.conformance.specs.Choices.{Choice, mergeable, unknown_choice}
 use Rattle.conformance.specs.SchemaMeanings.{Said, instances}
 use Rattle.merge_choices.specs.ChosenEntities.{IsChoiceFault}
 use Rattle.file_findings.specs.Findings.{AreBehind, ConformsWhereNothingIsFound}
@@ -82,7 +82,7 @@ module _ (schema input output certificate : List ℕ) (choice : Choice) (r q : R
     at_output_found f g said (inl a) (inr b) = absurd (a.4 (a.3 said ∙ b.0.nothing said))
     at_output_found f g said (inr a) (inl b) = absurd (b.4 (b.3 said ∙ a.0.nothing said))
     at_output_found f g said (inr a) (inr b) =
-        at_text s said (chosen_names s choice) f g r q certificate (a.1 said) (b.1 said)
+        at_text s said (mergeable s choice) f g r q certificate (a.1 said) (b.1 said)
 
     at_output : (f : File) → Said s → AtOutput schema input output certificate choice r s f
         → AtOutput schema input output certificate choice q s f → ProofsSayTheSame r q

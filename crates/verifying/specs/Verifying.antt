@@ -10,12 +10,11 @@ use Rattle.express_syntax.specs.Schemas.{Schema}
 use Rattle.express_syntax.specs.Texts as schema_texts
 use Rattle.express_syntax.specs.declared.fault.SchemaFault.{SchemaFault}
 use Rattle.express_syntax.specs.declared.fault.SchemaFault.TheVariants as schemas
-use Rattle.schema_semantics.specs.Names.{Name}
 use Rattle.schema_semantics.specs.Faults.{IsResolved}
 use Rattle.schema_types.specs.Resolution.{IsNameFault}
 use Rattle.schema_constraints.specs.declared.finding.RuleFinding.{RuleFinding}
 use Rattle.conformance.specs.declared.finding.Finding.{Finding}
-use Rattle.conformance.specs.Choices.{Choice, chosen_names, unknown_choice}
+use Rattle.conformance.specs.Choices.{Choice, mergeable, unknown_choice, Mergeable}
 use Rattle.conformance.specs.Findings.{findings}
 use Rattle.conformance.specs.PlainRows.{AreRowsOf}
 use Rattle.conformance.specs.Pins.{IsWeaklyPinned, IsGentlyPinned}
@@ -67,7 +66,7 @@ module _ (s : Schema) where
     pub are : (said : Said s) → AreRowsOf s (instances s said f) rows
     pub population : IsPopulation rows
 
-  module _ (chosen : List Name) (f : File) where
+  module _ (chosen : Mergeable) (f : File) where
     -- `pinned` holds exactly of the weakly pinned instances, if instances of the chosen entity data types may be
     -- merged.
     abbrev pub AreWeak : (ℕ → Bool) → Type 0
@@ -111,7 +110,7 @@ Lacks rows pinned t Unstable =
     HasMembers rows t × IsGrounded rows pinned (shares t) t.rounds × (IsStable rows pinned (shares t t.rounds) → ⊥)
 Lacks rows pinned t refusal = ⊥
 
-module _ (s : Schema) (chosen : List Name) (f : File) where
+module _ (s : Schema) (chosen : Mergeable) (f : File) where
   -- the first table lacks this condition, or the first table holds and the second one lacks it
   abbrev pub TablesLack : List ℕ → Refusal → Type 0
   TablesLack certificate refusal =
@@ -136,7 +135,7 @@ module _ (s : Schema) (chosen : List Name) (f : File) where
 
 -- By these tables the output is proved to conform, to be an image of the input, and to be a least one. The proof
 -- states the numbers of rows of input and output, and the last round of the second table.
-pub record IsAccepted (s : Schema) (said : Said s) (chosen : List Name) (input output : List ℕ) (first second : Table)
+pub record IsAccepted (s : Schema) (said : Said s) (chosen : Mergeable) (input output : List ℕ) (first second : Table)
     (p : Proof) : Type 0 where
   pub checked : IsCheckedOutput s said chosen input output
   pub first_is : checked.first ≡ first
@@ -148,7 +147,7 @@ pub record IsAccepted (s : Schema) (said : Said s) (chosen : List Name) (input o
   pub rounds : p.rounds ≡ second.rounds
 
 -- The certificate is accepted under every meaning of the schema, and the schema has one.
-pub record Proves (s : Schema) (chosen : List Name) (input output certificate : List ℕ) (p : Proof) : Type 0 where
+pub record Proves (s : Schema) (chosen : Mergeable) (input output certificate : List ℕ) (p : Proof) : Type 0 where
   pub first : Table
   pub second : Table
   pub certificate_is : IsCertificate certificate first second
@@ -183,13 +182,13 @@ module _ (schema input output certificate : List ℕ) (choice : Choice) where
   -- What `verify` returns. Each refusal requires that nothing before it is refused. Out of memory may be returned
   -- at any time, and no other fault is returned.
   abbrev pub Verifies : Result Proof Fault → Type 0
-  Verifies (Ok p) = UpToChoice (λ s. Proves s (chosen_names s choice) input output certificate p)
+  Verifies (Ok p) = UpToChoice (λ s. Proves s (mergeable s choice) input output certificate p)
   Verifies (Err (faults.Schema fault)) = IsSchemaFault schema choice fault
   Verifies (Err (faults.Text roles.File kind place)) = UpToChoice (λ s. IsFirstFault input kind place)
   Verifies (Err (faults.Refused roles.File fs gs)) = AreOfInput fs.items gs.items
   Verifies (Err (faults.Text roles.Output kind place)) = UpToInput (λ s f. IsFirstFault output kind place)
   Verifies (Err (faults.Refused roles.Output fs gs)) = AreOfOutput fs.items gs.items
   Verifies (Err (faults.Certificate refusal)) =
-      UpToOutput (λ s f g. IsRefused s (chosen_names s choice) f g certificate refusal)
+      UpToOutput (λ s f g. IsRefused s (mergeable s choice) f g certificate refusal)
   Verifies (Err faults.Memory) = Unit {0}
   Verifies (Err fault) = ⊥

@@ -4,7 +4,7 @@ ghost use Rattle.std.specs.Prelude.{◌≡◌, ℕ, IfOk, List, MatchResult};
 ghost use Rattle.std.specs.Bool.{OnTrue};
 ghost use Rattle.certificate_text.specs.Texts.{IsCertificate};
 ghost use Rattle.express_syntax.specs.Schemas.{Schema};
-ghost use Rattle.schema_semantics.specs.Names.{Name};
+ghost use Rattle.conformance.specs.Choices.{Mergeable};
 ghost use Rattle.step_structures.specs.Trees.{File};
 ghost use Rattle.value_equality.specs.Standard.{IsWellFormed};
 ghost use Rattle.value_equality.specs.Tables.{IsValid};
@@ -109,7 +109,7 @@ fn judge_pair<'a>(
 ) -> Result<Judged<'a>, TablesFault>
     requires first { IsWellFormed (table_of first) }
     requires second { IsWellFormed (table_of second) }
-    ensures judged { (s : Schema) (chosen : List Name) (f : File) (certificate : List ℕ)
+    ensures judged { (s : Schema) (chosen : Mergeable) (f : File) (certificate : List ℕ)
         → IsCertificate certificate (table_of first) (table_of second)
         → AreKnown s chosen f rows.entry weak.now → IsJudgement s chosen f certificate result }
     ensures ready { IfOk result IsReady }
@@ -130,7 +130,7 @@ pub(crate) fn judge_certificate<'a>(
     weak: WeakPins,
     certificate: Vec<u8>,
 ) -> Result<Judged<'a>, TablesFault>
-    ensures judged { (s : Schema) (chosen : List Name) (f : File)
+    ensures judged { (s : Schema) (chosen : Mergeable) (f : File)
         → AreKnown s chosen f rows.entry weak → IsJudgement s chosen f certificate.items result }
     ensures ready { IfOk result IsReady }
 {

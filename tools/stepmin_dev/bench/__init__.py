@@ -4,7 +4,8 @@
     check      `check` beside `plain`
     shrink     `shrink` beside `check`
     verify     `verify` beside `shrink`, and on certificates made to be slow
-    hostile    `check` and `shrink` on schemas and files made to be slow
+    sizes      all four on files of growing size
+    hostile    `check`, `shrink` and `verify` on schemas and files made to be slow
 
 These prove and build a program of bench/ first:
 
@@ -20,6 +21,7 @@ These prove and build a program of bench/ first:
 `tools/dev bench NAME --help` says what a bench makes and prints.
 Each bench makes its input in a temporary folder and prints a line for each measurement.
 With --write the figures also become a table in docs/SPEED.md, between two marks, with commit and machine.
+`sizes` then also becomes a plot, docs/sizes.svg, which the page shows above the table.
 """
 import importlib
 import json
@@ -31,7 +33,7 @@ import tempfile
 from ..options import parser_of, positive, program_of
 from ..repository import ROOT
 
-OF_PROGRAM = ("plain", "check", "shrink", "verify", "hostile")
+OF_PROGRAM = ("plain", "check", "shrink", "verify", "sizes", "hostile")
 WITH_OWN = ("names", "classes", "images", "literals", "pins", "resolving", "rows", "schemas")
 NEEDS_PROGRAM = (*OF_PROGRAM, "names")
 PAGE = os.path.join(ROOT, "docs", "SPEED.md")
@@ -47,8 +49,12 @@ def parser_of_benches():
     parser.add_argument("--beside", metavar="PATH", help="`plain`: another build of the program, run on the same files")
     parser.add_argument("--only", metavar="WORD", default="", help="`hostile`, `images`: only what has WORD in its name")
     parser.add_argument("--unproved", action="store_true", help="build a program of bench/ before its proof")
-    parser.add_argument("--write", action="store_true", help="write tables into docs/SPEED.md")
+    parser.add_argument("--write", action="store_true", help="write tables and plots into docs/SPEED.md")
     return parser
+
+
+def module_of(name):
+    return importlib.import_module(f"{__package__}.{name}")
 
 
 def shown(number):
@@ -77,14 +83,24 @@ def origin():
             f"{len(os.sched_getaffinity(0))} cores.")
 
 
+def picture_of(name, rows):
+    """Writes the plot of a bench into docs, and returns the lines that show it; empty if the bench has no plot."""
+    module = module_of(name)
+    if not hasattr(module, "drawn"):
+        return ""
+    with open(os.path.join(os.path.dirname(PAGE), f"{name}.svg"), "w", encoding="ascii") as file:
+        file.write(module.drawn(rows))
+    return f"![Bench {name}]({name}.svg)\n\n"
+
+
 def write(name, rows):
-    """Puts the table of a bench between the marks in docs/SPEED.md, in the place of its earlier one."""
+    """Puts the table of a bench, and its plot, between the marks in docs/SPEED.md, in the place of its earlier one."""
     with open(PAGE, encoding="utf-8") as file:
         text = file.read()
     before, _, rest = text.partition(MARKS[0])
     inside, _, after = rest.partition(MARKS[1])
     sections = dict(re.findall(r"^## Bench `(\w+)`\n\n(.*?)(?=^## Bench |\Z)", inside, re.M | re.S))
-    sections[name] = f"{origin()}\n\n{table_of(rows)}\n\n"
+    sections[name] = f"{origin()}\n\n{picture_of(name, rows)}{table_of(rows)}\n\n"
     inside = "".join(f"## Bench `{it}`\n\n{sections[it]}" for it in OF_PROGRAM + WITH_OWN if it in sections)
     with open(PAGE, "w", encoding="utf-8") as file:
         file.write(f"{before}{MARKS[0]}{inside}{MARKS[1]}{after}")
@@ -98,7 +114,7 @@ def has_marks():
 
 def run(name, asked):
     """Runs a bench, prints its figures, and returns them."""
-    module, rows, before = importlib.import_module(f"{__package__}.{name}"), [], os.getcwd()
+    module, rows, before = module_of(name), [], os.getcwd()
     asked = type(asked)(**{**vars(asked), "size": asked.size or module.SIZE, "runs": asked.runs or module.RUNS})
     with tempfile.TemporaryDirectory(prefix="bench-") as folder:
         try:
@@ -114,7 +130,7 @@ def run(name, asked):
 def main(arguments):
     helped = [it for it in arguments if it in OF_PROGRAM + WITH_OWN]
     if helped and {"-h", "--help"} & set(arguments):
-        print(*(importlib.import_module(f"{__package__}.{name}").__doc__.strip() for name in helped), sep="\n\n")
+        print(*(module_of(name).__doc__.strip() for name in helped), sep="\n\n")
         print("\n`tools/dev bench --help` lists the options.")
         return 0
     parser = parser_of_benches()

@@ -1,24 +1,31 @@
 """Times the commands on schemas and files that are made to be slow.
 
-Makes each shape in a size, twice that and four times that.
+Makes each shape in a size, twice that and four times that, and runs `check`, `shrink` and `verify`.
+Two runs of `shrink` choose entities by `--merge`: one all of the schema, one only the first.
+`verify` takes what `shrink` wrote with all chosen.
 Prints the seconds of processor time, how many times as long twice the size takes, and the memory as a multiple of
 schema and file.
+Twice the size should take at most 2.5 times as long, and 4.5 times if all supertypes of each instance are listed.
+If it takes longer, the aim is printed too.
 Less than 20 ms isn't distinguished from the start of the program, so no ratio is printed.
 What takes ten seconds runs once, and isn't tried twice as large. --only WORD takes the shapes with WORD in their names.
 
-Shapes of schemas, with `check`:
+Shapes of schemas:
 chains of types with a rule each, and as many types without a chain;
-chains of subtypes with an instance each, with derived attributes, and with many instances whose rule asks the last;
+chains of subtypes with an instance each, also declared backwards, with a UNIQUE rule each, with derived attributes, and
+with many instances whose rule asks the last;
+instances of two chains of subtypes at once;
 chains of derived redeclarations, and an instance of the last;
 an enumeration and a value for each item; a UNIQUE rule of many attributes; many inverse attributes of one entity;
 types of types; SELECTs of SELECTs; instances of many combinations of types;
 derived attributes that use the one before twice, and a rule that asks many that use others.
 
-Shapes of files, with `shrink` and with `check` under a UNIQUE rule:
+Shapes of files, under a UNIQUE rule:
 numbers that differ by multiples of 2^64; strings of codes that can be cut into two in many ways.
 """
 import os
 import random
+import re
 
 from .. import bench
 from .files import write, write_text
@@ -54,6 +61,27 @@ def flat_types(n):
 def chain_of_subtypes(n):
     body = lines(n, lambda k: f"ENTITY e{k}{f' SUBTYPE OF (e{k - 1})' if k else ''}; END_ENTITY;\n")
     return schema(body), instances(n, lambda k: f"E{k}()")
+
+
+def backward_chain(n):
+    """A chain of subtypes, each declared before its supertype, with an instance each."""
+    body = lines(n, lambda k: f"ENTITY e{k}{f' SUBTYPE OF (e{k + 1})' if k + 1 < n else ''}; END_ENTITY;\n")
+    return schema(body), instances(n, lambda k: f"E{k}()")
+
+
+def unique_rules(n):
+    """A chain of subtypes with an attribute, a UNIQUE rule and an instance each."""
+    top = "ENTITY e0; a0 : INTEGER; UNIQUE u : a0; END_ENTITY;\n"
+    body = lines(n, lambda k: f"ENTITY e{k + 1} SUBTYPE OF (e{k}); a{k + 1} : INTEGER; UNIQUE u : a{k + 1}; END_ENTITY;\n")
+    return schema(top + body), instances(n, lambda k: f"E{k}({','.join([str(k + 1)] * (k + 1))})")
+
+
+def two_chains(n):
+    """Twenty instances that have all types of two chains of subtypes."""
+    chain = [lines(n, lambda k, letter=letter: f"ENTITY {letter}{k} SUBTYPE OF ({f'{letter}{k - 1}' if k else 'e'}); END_ENTITY;\n")
+             for letter in "fg"]
+    names = sorted(f"{letter}{k}" for k in range(n) for letter in "FG")
+    return schema("ENTITY e; END_ENTITY;\n" + "".join(chain)), instances(20, lambda _: "(E()" + "".join(f"{it}()" for it in names) + ")")
 
 
 def redeclarations(n):
@@ -163,47 +191,75 @@ def strings(n):
     return schema(body), instances(n, lambda k: f"{'EP'[k % 2]}(({cut(k // 2)}))")
 
 
+LINEAR, LISTING = 2.5, 4.5
+# Maps names of shapes to their makers, sizes, and how many times as long twice the size may take.
 SHAPES = {
-    "chain of types with rules": (chain_of_types, 250, ["check"]),
-    "types with rules": (flat_types, 2500, ["check"]),
-    "chain of subtypes": (chain_of_subtypes, 1000, ["check"]),
-    "chain of redeclarations": (redeclarations, 250, ["check"]),
-    "instance of redeclarations": (instance_of_redeclarations, 250, ["check"]),
-    "chain of derived attributes": (chain_of_derived, 250, ["check"]),
-    "last of a chain, asked often": (asked_often, 500, ["check"]),
-    "enumeration": (enumeration, 25000, ["check"]),
-    "UNIQUE of many attributes": (unique_of_many, 5000, ["check"]),
-    "inverse attributes": (inverses, 2500, ["check"]),
-    "types of types": (types_of_types, 2500, ["check"]),
-    "SELECTs of SELECTs": (selects, 2500, ["check"]),
-    "combinations of types": (combinations, 250, ["check"]),
-    "derived twice": (derived_twice, 1000, ["check"]),
-    "derived side by side": (derived_beside, 250, ["check"]),
-    "numbers apart by 2^64": (numbers, 25000, ["check", "shrink"]),
-    "strings cut in many ways": (strings, 10000, ["check", "shrink"]),
+    "chain of types with rules": (chain_of_types, 250, LINEAR),
+    "types with rules": (flat_types, 2500, LINEAR),
+    "chain of subtypes": (chain_of_subtypes, 1000, LISTING),
+    "chain declared backwards": (backward_chain, 1000, LISTING),
+    "chain with UNIQUE rules": (unique_rules, 100, LISTING),
+    "two chains at once": (two_chains, 250, LISTING),
+    "chain of redeclarations": (redeclarations, 250, LISTING),
+    "instance of redeclarations": (instance_of_redeclarations, 250, LISTING),
+    "chain of derived attributes": (chain_of_derived, 250, LISTING),
+    "last of a chain, asked often": (asked_often, 500, LISTING),
+    "enumeration": (enumeration, 25000, LINEAR),
+    "UNIQUE of many attributes": (unique_of_many, 5000, LINEAR),
+    "inverse attributes": (inverses, 2500, LINEAR),
+    "types of types": (types_of_types, 2500, LINEAR),
+    "SELECTs of SELECTs": (selects, 2500, LINEAR),
+    "combinations of types": (combinations, 250, LINEAR),
+    "derived twice": (derived_twice, 1000, LINEAR),
+    "derived side by side": (derived_beside, 250, LINEAR),
+    "numbers apart by 2^64": (numbers, 25000, LINEAR),
+    "strings cut in many ways": (strings, 10000, LINEAR),
 }
+COMMANDS = ("check", "shrink, all chosen", "shrink, one chosen", "verify")
+
+
+def words_of(program, command, paths, entities):
+    """The words that run a command on schema and file, and on what `shrink` writes."""
+    if command == "check":
+        return [program, command, *paths[:2]]
+    chosen = entities[:1] if command == "shrink, one chosen" else entities
+    return [program, command.partition(",")[0], *paths, "--merge", ",".join(chosen)]
+
+
+def timed(asked, paths, command, shape):
+    """Writes schema and file, and runs a command."""
+    text, data = shape
+    write_text(paths[0], text)
+    write(paths[1], [data])
+    entities = re.findall(r"^ENTITY (\w+)", text, re.M)
+    if command == "verify":
+        run(words_of(asked.program, COMMANDS[1], paths, entities), 1)
+    return run(words_of(asked.program, command, paths, entities), asked.runs, enough=TOO_LONG)
+
+
+def rows_of(asked, paths, name, command):
+    """The figures of a shape under a command, size by size."""
+    make, size, aim = SHAPES[name]
+    before = None
+    for count in (size, 2 * size, 4 * size):
+        found = timed(asked, paths, command, make(count))
+        figures = {"s": found.processor}
+        if before and before > TOO_SHORT:
+            figures["times as long for twice the size"] = found.processor / before
+            if found.processor > aim * before:
+                figures["times aimed at"] = aim
+        figures["times both texts in memory"] = found.memory / sum(map(os.path.getsize, paths[:2]))
+        yield f"{name}, {command}, {count:,}", figures
+        before = found.processor
+        if before > TOO_LONG:
+            break
 
 
 def rows(asked, folder):
-    schema_path, path, out, certificate = (os.path.join(folder, it) for it in ("schema.exp", "file.stp", "out.stp", "cert.txt"))
-    for name, (make, size, commands) in SHAPES.items():
-        for command in commands if asked.only in name else ():
-            words, before = [asked.program, command, schema_path, path], None
-            if command == "shrink":
-                words += [out, certificate, "--merge", "P"]
-            for count in (size, 2 * size, 4 * size):
-                text, data = make(count)
-                write_text(schema_path, text)
-                write(path, [data])
-                found = run(words, asked.runs, enough=TOO_LONG)
-                figures = {"s": found.processor}
-                if before and before > TOO_SHORT:
-                    figures["times as long for twice the size"] = found.processor / before
-                figures["times both texts in memory"] = found.memory / sum(map(os.path.getsize, (schema_path, path)))
-                yield f"{name}, {command}, {count:,}", figures
-                before = found.processor
-                if before > TOO_LONG:
-                    break
+    paths = [os.path.join(folder, it) for it in ("schema.exp", "file.stp", "out.stp", "cert.txt")]
+    for name in SHAPES:
+        for command in COMMANDS if asked.only in name else ():
+            yield from rows_of(asked, paths, name, command)
 
 
 def main(arguments):

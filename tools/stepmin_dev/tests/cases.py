@@ -155,20 +155,20 @@ def differences(case, outcome):
     return lines + file_differences(outcome.files, case.files)
 
 
-def paths_and_names(arguments):
-    """Returns the paths among the arguments of `shrink`, and its option `--merge`, if any."""
-    paths, names, rest = [], [], list(arguments)
+def paths_and_choice(arguments):
+    """Returns the paths among the arguments of `shrink`, and its options `--merge` and `--in-sets`, if any."""
+    paths, choice, rest = [], [], list(arguments)
     while rest:
         argument = rest.pop(0)
         if argument == b"--":
-            return paths + rest, names
+            return paths + rest, choice
         if argument == b"--merge":
-            names = [argument, rest.pop(0)]
-        elif argument.startswith(b"--merge="):
-            names = [argument]
+            choice += [argument, rest.pop(0)]
+        elif argument.startswith(b"--merge=") or argument == b"--in-sets":
+            choice.append(argument)
         elif argument != b"--strict":
             paths.append(argument)
-    return paths, names
+    return paths, choice
 
 
 def verified_text(printed):
@@ -186,12 +186,12 @@ def ends_with(outcome, name, printed):
 
 def differences_after(program, case, outcome):
     """Returns what is wrong with the OUT and CERT that `shrink` wrote, if it ended with 0."""
-    (schema, file, out, certificate), names = paths_and_names(case.arguments[1:])
+    (schema, file, out, certificate), choice = paths_and_choice(case.arguments[1:])
     first = outcome.files[os.path.normpath(out.decode())]
     files = {**case.inputs, "first-out": first, "first-cert": outcome.files[os.path.normpath(certificate.decode())]}
-    ended = run(program, [b"verify", schema, file, b"first-out", b"first-cert", *names], files, case.stdin)
+    ended = run(program, [b"verify", schema, file, b"first-out", b"first-cert", *choice], files, case.stdin)
     lines = ends_with(ended, "verify", verified_text(case.stdout))
-    ended = run(program, [b"shrink", schema, b"first-out", b"second-out", b"second-cert", *names], files, case.stdin)
+    ended = run(program, [b"shrink", schema, b"first-out", b"second-out", b"second-cert", *choice], files, case.stdin)
     lines += ends_with(ended, "shrink of OUT", None)
     lines += text_differences("shrink of OUT", ended.files.get("second-out", b""), first)
     text = first
@@ -208,7 +208,8 @@ def try_case(program, folder):
         case = read_case(folder)
         outcome = run(program, case.arguments, case.inputs, case.stdin)
         lines = differences(case, outcome)
-        if not lines and case.status == 0 and case.arguments[:1] == [b"shrink"]:
+        is_merge = case.arguments[:1] == [b"shrink"] and b"--help" not in case.arguments
+        if not lines and case.status == 0 and is_merge:
             lines = differences_after(program, case, outcome)
         return lines
     except Wrong as wrong:

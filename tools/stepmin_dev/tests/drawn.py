@@ -1,6 +1,7 @@
 """Draws populations, and compares what `stepmin shrink` and `stepmin verify` say of them with the definition.
 
-Draws small files that conform to a schema with SETs, LISTs OF UNIQUE, a uniqueness rule and an inverse attribute.
+Draws small files that conform to a schema with SETs, LISTs OF UNIQUE, a uniqueness rule and an inverse attribute,
+and which entities are merged, with `--in-sets` or without.
 OUT and CERT of `shrink` have to be those that a few lines of Python find by comparing all pairs in every round.
 `verify` has to accept them.
 Then a table of the certificate, or the output, is changed at random.
@@ -39,6 +40,8 @@ SIZES = {"1.": 1, "1.0": 1, "0.1E1": 1, "2.": 2, "20.E-1": 2}
 
 # A row has its entity and its values: the spelling of a number, if any, names, and a list of names.
 Row = collections.namedtuple("Row", "entity size links members")
+# A choice has the entities that are merged, and whether what stands alone in a SET may be merged.
+Choice = collections.namedtuple("Choice", "entities in_sets")
 # A table has its last round, for each class its parent and round, if any, and the class of each name.
 Table = collections.namedtuple("Table", "rounds origins members")
 
@@ -46,12 +49,12 @@ Table = collections.namedtuple("Table", "rounds origins members")
 def drawn(rng):
     """Rows by name."""
     names = sorted(rng.sample(range(1, 40), rng.randint(1, 9)))
-    sizes = rng.sample(sorted(SIZES), rng.randint(1, 5))
+    sizes = rng.sample(sorted(SIZES), rng.choice([1, 1, 2, 3, 5]))
     rows = {name: Row(rng.choice(["NODE", "NODE", "KNOT"]), rng.choice(sizes),
-                      [rng.choice([None, rng.choice(names), rng.choice(names)]) for _ in range(2)], [])
+                      [rng.choice([None, None, rng.choice(names)]) for _ in range(2)], [])
             for name in names}
-    for name in rng.sample(range(40, 50), rng.choice([0, 1, 1, 2])):
-        members = rng.sample(names, rng.randint(0, min(4, len(names))))
+    for name in rng.sample(range(40, 50), rng.choice([0, 1, 2, 3])):
+        members = rng.sample(names, min(rng.choice([0, 1, 1, 1, 2, 3, 4]), len(names)))
         rows[name] = Row(rng.choice(["BUNDLE", "RING"]), None, [], members)
     for name in rng.sample(range(50, 55), rng.choice([0, 0, 0, 1, 2])):
         rows[name] = Row("MARK", None, [rng.choice(names)], [])
@@ -74,10 +77,15 @@ def text(rows):
     return HEADER + "".join(line(name, row) for name, row in rows.items()) + FOOTER
 
 
-def weak_pins(rows):
-    held = {it for row in rows.values() if row.entity == "BUNDLE" for it in row.members}
+def choice_drawn(rng):
+    return Choice(["NODE", "KNOT", *rng.choice([[], ["BUNDLE"]])], rng.random() < 0.5)
+
+
+def weak_pins(rows, choice):
+    spared = 1 if choice.in_sets else 0
+    held = {it for row in rows.values() if row.entity == "BUNDLE" and len(row.members) > spared for it in row.members}
     held |= {it for row in rows.values() if row.entity in ("MARK", "LABEL") for it in row.links}
-    return held | {name for name, row in rows.items() if row.size is None}
+    return held | {name for name, row in rows.items() if row.entity not in choice.entities}
 
 
 def gentle_pins(rows, weak, table):
@@ -98,7 +106,8 @@ def signature(rows, pins, classes, name):
         return it is not None and ((True, it) if it in pins else (False, classes[it]))
 
     row = rows[name]
-    members = sorted(row.members) if row.entity == "BUNDLE" else map(stands_for, row.members)
+    is_crowd = row.entity == "BUNDLE" and len(row.members) > 1
+    members = sorted(row.members) if is_crowd else map(stands_for, row.members)
     return SIZES.get(row.size), tuple(map(stands_for, row.links)), row.entity == "BUNDLE", tuple(members)
 
 
@@ -201,13 +210,13 @@ def conforms(rows):
                for row in rows.values())
 
 
-def verdict(rows, output, tables):
+def verdict(rows, choice, output, tables):
     """The answer that `verify` has to give."""
     if not conforms(output):
         return "output"
     if not all(map(is_text, tables)):
         return "C1 BadText"
-    weak = weak_pins(rows)
+    weak = weak_pins(rows, choice)
     wrong = fault(rows, weak, tables[0])
     wrong = wrong or fault(rows, gentle_pins(rows, weak, tables[0]), tables[1])
     if wrong or not same(quotient(rows, tables[1]), output):
@@ -275,20 +284,21 @@ def altered(rng, rows):
     return dict(order)
 
 
-def wrong_proof(rng, rows, output, tables):
+def wrong_proof(rng, rows, choice, output, tables):
     """An output and tables that differ from those of `shrink`."""
     while True:
-        other, others = proof_drawn(rng, rows, output, tables)
+        other, others = proof_drawn(rng, rows, choice, output, tables)
         if others != tables or not same(other, output) or list(other) != list(output):
             return other, others
 
 
-def proof_drawn(rng, rows, output, tables):
+def proof_drawn(rng, rows, choice, output, tables):
     if rng.random() < 0.2:
         return altered(rng, output), tables
     if rng.random() < 0.2:
-        weak = weak_pins(rows)
-        pins = rng.choice([set(), set(rows), weak, weak - set(rng.sample(sorted(weak), min(1, len(weak))))])
+        weak = weak_pins(rows, choice)
+        other = weak_pins(rows, choice._replace(in_sets=not choice.in_sets))
+        pins = rng.choice([set(), set(rows), other, weak, weak - set(rng.sample(sorted(weak), min(1, len(weak))))])
         tables = [refined(rows, pins)] * 2 if rng.random() < 0.5 else [tables[0], refined(rows, pins)]
     else:
         both, second = tables
@@ -325,14 +335,15 @@ class Trial:
             if os.path.exists(path):
                 os.remove(path)
 
-    def run(self, command):
-        words = [self.program, command, *self.paths, "--merge", "NODE,KNOT"]
+    def run(self, command, choice):
+        words = [self.program, command, *self.paths, "--merge", ",".join(choice.entities)]
+        words += ["--in-sets"] if choice.in_sets else []
         ran = subprocess.run(words, capture_output=True, text=True, timeout=60, check=False)
         return ran.returncode, ran.stdout, ran.stderr
 
-    def said(self):
+    def said(self, choice):
         """The answer of `verify`, in the words of `verdict`."""
-        status, printed, faults = self.run("verify")
+        status, printed, faults = self.run("verify", choice)
         if status == 0 and printed.endswith("certificate holds\n"):
             return "holds"
         if status == 1 and faults.startswith("output: "):
@@ -343,23 +354,23 @@ class Trial:
 
 
 def is_right(trial, rng, told):
-    rows = drawn(rng)
-    weak = weak_pins(rows)
+    rows, choice = drawn(rng), choice_drawn(rng)
+    weak = weak_pins(rows, choice)
     first = refined(rows, weak)
     tables = [first, refined(rows, gentle_pins(rows, weak, first))]
     output = quotient(rows, tables[1])
     trial.clear()
     trial.write(1, text(rows))
-    status, printed, faults = trial.run("shrink")
+    status, printed, faults = trial.run("shrink", choice)
     if (status, trial.read(2), trial.read(3)) != (0, text(output), certificate(tables)):
-        print(f"shrink: status {status}\n{printed}{faults}")
+        print(f"shrink, {choice}: status {status}\n{printed}{faults}")
         return False
-    for output, tables in [(output, tables), wrong_proof(rng, rows, output, tables)]:
+    for output, tables in [(output, tables), wrong_proof(rng, rows, choice, output, tables)]:
         trial.write(2, text(output))
         trial.write(3, certificate(tables))
-        wanted, said = verdict(rows, output, tables), trial.said()
+        wanted, said = verdict(rows, choice, output, tables), trial.said(choice)
         if said != wanted:
-            print(f"verify: {said}, not {wanted}")
+            print(f"verify, {choice}: {said}, not {wanted}")
             return False
         told[said] += 1
     return True

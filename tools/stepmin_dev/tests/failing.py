@@ -35,6 +35,7 @@ LIBRARY = """
 #include <stdlib.h>
 #include <sys/stat.h>
 #include <sys/types.h>
+#include <unistd.h>
 
 static long blocks, calls;
 static long number(const char *name) { const char *text = getenv(name); return text ? atol(text) : -1; }
@@ -57,6 +58,8 @@ int open(const char *path, int flags, ...) {
     return failed() ? -1 : NEXT(open)(path, flags, mode);
 }
 int fsync(int file) { return failed() ? -1 : NEXT(fsync)(file); }
+int fchown(int file, uid_t owner, gid_t group) { return failed() ? -1 : NEXT(fchown)(file, owner, group); }
+ssize_t readlink(const char *path, char *into, size_t size) { return failed() ? -1 : NEXT(readlink)(path, into, size); }
 int fchmod(int file, mode_t mode) { return failed() ? -1 : NEXT(fchmod)(file, mode); }
 int statx(int folder, const char *path, int flags, unsigned mask, struct statx *into) {
     return failed() ? -1 : NEXT(statx)(folder, path, flags, mask, into);
@@ -181,6 +184,8 @@ def is_told_byte_by_byte(trial):
             is_output, count = said[1] == "output", int(said[2])
             wanted = [whole.made[WRITTEN[0]], whole.made[WRITTEN[1]]]
             wanted = [wanted[0][:count], ""] if is_output else [wanted[0], wanted[1][:count]]
+            if not is_output and count == 0 and not answer.made:
+                wanted = ["", ""]  # CERT's path can't be looked at, which comes before anything is written
             told.add((said[1], count))
         if not is_prefix(answer, whole) or said and written != wanted:
             print(f"{words}, one byte a call, call {number}: {answer}")

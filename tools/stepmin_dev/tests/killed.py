@@ -28,7 +28,7 @@ def content(folder, name):
 def lay(folder, old):
     """Writes the files as they are before a run, and removes what a killed run has left."""
     for name in os.listdir(folder):
-        if name.startswith(".stepmin-"):
+        if name.startswith("."):
             os.remove(os.path.join(folder, name))
     for name, text in (("file.stp", old), ("file.cert", OLD_CERTIFICATE)):
         path = os.path.join(folder, name)

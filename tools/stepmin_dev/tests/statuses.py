@@ -87,6 +87,7 @@ SHRINKING = [
     (["geo.exp", "equal.stp", "out.stp"], 3, {"err": "error: ...\n"}),
     (["geo.exp", "equal.stp", *WRITTEN, "--merge", "POINT,"], 3, {"err": "error: ...\n"}),
     (["geo.exp", "equal.stp", *WRITTEN, "--merge", "POINT,,NODE"], 3, {"err": "error: ...\n"}),
+    (["geo.exp", "equal.stp", *WRITTEN, "--merge", "@lines"], 3, {"err": "error: ...\n"}),
     (["geo.exp", "equal.stp", "/dev/full", "out.cert", *MERGE], 4, {"err": "device: output after 0 bytes\n"}),
     (["geo.exp", "self.stp", "self.stp", "/dev/full", *MERGE], 4, {"err": "device: certificate after 0 bytes\n"}),
     (["geo.exp", "self.stp", "self.stp", "bad.cert", *MERGE], 4,

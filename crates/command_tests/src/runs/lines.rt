@@ -17,21 +17,21 @@ const HELP: &str = "Checks STEP files (ISO 10303-21), and makes them smaller\n\n
     Usage: stepmin <COMMAND>\n\n\
     Commands:\n  \
     plain   Writes the normal text of a STEP file\n  \
-    check   Tells where a STEP file breaks its schema\n  \
+    check   Reports where a STEP file breaks its schema\n  \
     shrink  Writes a smaller file, in which equal instances are one, and its certificate\n  \
-    verify  Tells whether CERT is a certificate of FILE and OUT\n  \
+    verify  Checks the certificate CERT of a smaller file OUT\n  \
     help    Print this message or the help of the given subcommand(s)\n\n\
     Options:\n  \
     -h, --help     Print help\n  \
     -V, --version  Print version\n\n\
     Exit status:\n  \
-    0  all is done\n  \
-    1  a file breaks its schema, or --strict refuses the schema\n  \
-    2  a text can't be read, or a chosen name is no entity\n  \
-    3  the words of the command line are wrong\n  \
-    4  a device fails\n  \
-    5  memory runs out\n  \
-    6  the certificate is refused\n";
+    0  success\n  \
+    1  the file breaks its schema, or --strict refuses the schema\n  \
+    2  a text isn't a STEP file, schema or certificate, or the schema lacks a name in NAMES\n  \
+    3  the arguments are wrong\n  \
+    4  a file or an output can't be read or written\n  \
+    5  out of memory\n  \
+    6  the certificate doesn't prove OUT\n";
 
 // What `plain --help` prints.
 const PLAIN_HELP: &str = "Writes the normal text of a STEP file\n\n\
@@ -39,16 +39,20 @@ const PLAIN_HELP: &str = "Writes the normal text of a STEP file\n\n\
     Arguments:\n  \
     <FILE>  The file that is read\n\n\
     Options:\n  \
-    -h, --help  Print help\n";
+    -h, --help  Print help\n\n\
+    Example:\n  \
+    stepmin plain part.stp > plain.stp\n";
 
 // What `check --help` prints.
-const CHECK_HELP: &str = "Tells where a STEP file breaks its schema\n\n\
+const CHECK_HELP: &str = "Reports where a STEP file breaks its schema\n\n\
     Usage: stepmin check <SCHEMA> <FILE>\n\n\
     Arguments:\n  \
     <SCHEMA>  The schema that it is checked against\n  \
     <FILE>    The file that is read\n\n\
     Options:\n  \
-    -h, --help  Print help\n";
+    -h, --help  Print help\n\n\
+    Example:\n  \
+    stepmin check ap214.exp part.stp\n";
 
 const ALL: usize = usize::MAX;
 
@@ -276,6 +280,13 @@ const ASKED: &'static [Asked] = &[
         ],
         3,
         "error: a name in NAMES is empty\n",
+    ),
+    (
+        &[
+            "stepmin", "shrink", "GEO", "F", "X", "Y", "--merge", "@lines",
+        ],
+        3,
+        "error: a preset in NAMES isn't one of @points, @styles, @geometry, @all\n",
     ),
     (&["stepmin", "plain"], 3, "error: "),
     (&["stepmin", "plain", "F", "F"], 3, "error: "),

@@ -6,6 +6,7 @@ use file_store::folder::Folder;
 use files::store::Store;
 use std::alloc::Global;
 use std::fs;
+use std::fs::File;
 use std::hash::RandomState;
 use std::rt::Files;
 use std::test::Fail;
@@ -44,7 +45,7 @@ fn large_file(alloc: Global, behind: &str) -> Option<String> {
 }
 
 // Whether the text can be written to the file system.
-fn is_laid<R: Files>(rt: &R, alloc: Global, text: &str) -> bool {
+fn is_laid<R: Files<File = File>>(rt: &R, alloc: Global, text: &str) -> bool {
     let mut folder = Folder::new(alloc, rt);
     let mut writer = folder.writer(LARGE);
     let put = writer.put(text.as_bytes());
@@ -53,7 +54,7 @@ fn is_laid<R: Files>(rt: &R, alloc: Global, text: &str) -> bool {
 }
 
 // Whether the file in the file system has this normal text.
-fn is_normal_there<'x, R: Files>(
+fn is_normal_there<'x, R: Files<File = File>>(
     rt: &'x R,
     alloc: Global,
     keys: RandomState,
@@ -66,7 +67,7 @@ fn is_normal_there<'x, R: Files>(
 }
 
 // Returns what fails first for the large file and its normal text, if anything.
-fn wrong_of<R: Files>(
+fn wrong_of<R: Files<File = File>>(
     rt: &R,
     alloc: Global,
     keys: RandomState,
@@ -86,7 +87,7 @@ fn wrong_of<R: Files>(
     None
 }
 
-fn wrong_of_file<R: Files>(
+fn wrong_of_file<R: Files<File = File>>(
     rt: &R,
     alloc: Global,
     keys: RandomState,
@@ -101,7 +102,11 @@ fn wrong_of_file<R: Files>(
     }
 }
 
-fn wrong_large<R: Files>(rt: &R, alloc: Global, keys: RandomState) -> Option<&'static str> {
+fn wrong_large<R: Files<File = File>>(
+    rt: &R,
+    alloc: Global,
+    keys: RandomState,
+) -> Option<&'static str> {
     match large_file(alloc, " = point ( ( 0., 1. ) ) ;") {
         Some(file) => wrong_of_file(rt, alloc, keys, file.as_str()),
         None => Some("the file"),

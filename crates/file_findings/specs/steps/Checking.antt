@@ -4,7 +4,7 @@ use Rattle.std.specs.Prelude.{◌≡◌, ◌↔◌, ℕ, IsTrue, List, []}
 use Rattle.step_structures.specs.Trees.{File}
 use Rattle.value_equality.specs.Rows.{Row, IsPopulation}
 use Rattle.express_syntax.specs.Schemas.{Schema}
-use Rattle.schema_semantics.specs.Names.{Name}
+use Rattle.conformance.specs.Choices.{Mergeable}
 use Rattle.conformance.specs.Pins.{IsWeaklyPinned}
 use Rattle.conformance.specs.PlainRows.{AreRowsOf}
 use Rattle.conformance.specs.SchemaMeanings.{Said, instances}
@@ -26,9 +26,9 @@ module _ (s : Schema) (f : File) (chosen : Chosen) where
     pub nothing : AreFindings s f [] [] unknown
     pub population : IsPopulation rows
     pub are_rows : (said : Said s) → AreRowsOf s (instances s said f) rows
-    pub are_weak : (said : Said s) (names : List Name) → AreChosen s names chosen → (y : ℕ)
+    pub are_weak : (said : Said s) (those : Mergeable) → AreChosen s those chosen → (y : ℕ)
         → IsTrue (is_pinned weak.pins y)
-        ↔ IsWeaklyPinned s said.domain said.entities said.rules names (instances s said f) y
+        ↔ IsWeaklyPinned s said.domain said.entities said.rules those (instances s said f) y
     pub are_unique : (said : Said s) → AreUniqueOf s (instances s said f) weak.lists
 
   -- Either the file has findings, and these are all, or it has none.

@@ -2,11 +2,11 @@
 -- the instances that the weak rules pin, and the lists that the gentle rules need.
 use Rattle.std.specs.Prelude.{◌≢◌, ◌↔◌, ℕ, Bool, IsTrue, List, []}
 use Rattle.express_syntax.specs.Schemas.{Schema}
-use Rattle.schema_semantics.specs.Names.{Name}
 use Rattle.schema_constraints.specs.declared.finding.RuleFinding.{RuleFinding}
 use Rattle.schema_constraints.specs.declared.tables.RuleTables.{RuleTables}
 use Rattle.schema_constraints.specs.RuleViews.{rules_seen}
 use Rattle.conformance.specs.Bases.{Domain, IsDomain}
+use Rattle.conformance.specs.Choices.{Mergeable}
 use Rattle.conformance.specs.Conforming.{PopulationConforms}
 use Rattle.conformance.specs.Entities.{Entities, AreEntities}
 use Rattle.conformance.specs.Pins.{IsWeaklyPinned}
@@ -21,11 +21,11 @@ use Rattle.file_findings.specs.declared.rule_pins.Ruled.{Ruled}
 use Rattle.file_findings.specs.declared.rule_pins.Ruled.TheVariants.{Broken, Kept}
 
 module _ (s : Schema) (is : List Instance) where
-  -- `weak` holds exactly of the weakly pinned instances, for every list of names that `chosen` stands for.
+  -- `weak` holds exactly of the weakly pinned instances, whatever may be merged by `chosen`.
   abbrev pub AreWeakPins : RuleTables → Chosen → (ℕ → Bool) → Type 0
-  AreWeakPins t chosen weak = (d : Domain) (en : Entities) (names : List Name) → IsDomain s d → AreEntities s en
-      → AreChosen s names chosen → (y : ℕ)
-      → IsTrue (weak y) ↔ IsWeaklyPinned s d en (rules_seen s t) names is y
+  AreWeakPins t chosen weak = (d : Domain) (en : Entities) (those : Mergeable) → IsDomain s d → AreEntities s en
+      → AreChosen s those chosen → (y : ℕ)
+      → IsTrue (weak y) ↔ IsWeaklyPinned s d en (rules_seen s t) those is y
 
   -- `gs` are the findings of rules, and `n` pairs of an instance and a domain rule are UNKNOWN, if the population
   -- conforms apart from rules.

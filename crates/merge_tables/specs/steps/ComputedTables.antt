@@ -5,7 +5,8 @@ use Rattle.value_equality.specs.Rows.{Row, IsPopulation}
 use Rattle.value_equality.specs.Tables.{Table, shares}
 use Rattle.value_equality.specs.Standard.{IsStandard}
 use Rattle.express_syntax.specs.Schemas.{Schema}
-use Rattle.schema_semantics.specs.Names.{Name, OneOf}
+use Rattle.schema_semantics.specs.Names.{OneOf}
+use Rattle.conformance.specs.Choices.{Mergeable}
 use Rattle.conformance.specs.Bases.{Domain, IsDomain}
 use Rattle.conformance.specs.Entities.{Entities, AreEntities}
 use Rattle.conformance.specs.Pins.{StandsBesideItsClass}
@@ -32,7 +33,7 @@ module _ (s : Schema) (is : List Instance) where
     pub first_is : IsStandard rows weak first
     pub second_is : IsStandard rows pinned second
 
--- the result of merging a file with instances of these names, for all names that `chosen` stands for
+-- the result of merging a file, whatever may be merged by `chosen`
 abbrev pub Comes : Schema → Chosen → File → List ℕ → Merging → Type 0
 Comes s chosen f names m =
-    ((those : List Name) → AreChosen s those chosen → Merges s those f m) × HaveMembers names m
+    ((those : Mergeable) → AreChosen s those chosen → Merges s those f m) × HaveMembers names m

@@ -4,7 +4,6 @@ use Rattle.std.specs.Prelude.{◌≡◌, List, [], ℕ, Option, IfSome, Bool, tr
 use Rattle.std.specs.Io.KnownBytes.{Appends, Keeps}
 use Rattle.devices.specs.Emits.{EmitsFront}
 use Rattle.express_syntax.specs.Schemas.{Schema}
-use Rattle.schema_semantics.specs.Names.{Name}
 use Rattle.schema_semantics.specs.Parts.{AreUnchecked}
 use Rattle.files.specs.declared.fault.Role.{Role}
 use Rattle.files.specs.declared.fault.Role.TheVariants as roles
@@ -13,6 +12,7 @@ use Rattle.files.specs.declared.fault.FileFault.TheVariants as files
 use Rattle.reports.specs.declared.fault.Fault.{Fault}
 use Rattle.shrinking.specs.declared.summary.Summary.{Summary}
 use Rattle.shrinking.specs.Shrinking.{FileAnswers, Written}
+use Rattle.conformance.specs.Choices.{Mergeable}
 
 -- both texts are written, `text` first
 abbrev pub Writes : Written → Written → List ℕ → List ℕ → Result Unit FileFault → Type 0
@@ -35,7 +35,7 @@ abbrev pub IsRefused : Bool → Schema → Type 0
 IsRefused strict s = (strict ≡ true) × (∥ AreUnchecked s [] ∥₁ → ⊥)
 
 -- the result for a file of these bytes, and what is written
-pub record FileShrinks (s : Schema) (chosen : List Name) (bytes : List ℕ) (to_output to_certificate : Written)
+pub record FileShrinks (s : Schema) (chosen : Mergeable) (bytes : List ℕ) (to_output to_certificate : Written)
     (result : Result Summary Fault) : Type 0 where
   pub output : List ℕ
   pub certificate : List ℕ
@@ -45,7 +45,7 @@ pub record FileShrinks (s : Schema) (chosen : List Name) (bytes : List ℕ) (to_
 
 -- the result for a file that a source delivers, and what is written; `file` are the bytes to come, if they are
 -- revealed
-pub record SourceShrinks (s : Schema) (chosen : List Name) (file : Option (List ℕ)) (to_output to_certificate : Written)
+pub record SourceShrinks (s : Schema) (chosen : Mergeable) (file : Option (List ℕ)) (to_output to_certificate : Written)
     (result : Result Summary Fault) : Type 0 where
   pub bytes : List ℕ
   pub bytes_are : IfSome file (λ b. b ≡ bytes)

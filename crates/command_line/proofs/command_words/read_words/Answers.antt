@@ -2,7 +2,7 @@ use Rattle.std.proofs.Common.{◌≡◌, ◌∙◌, inl, inr, Some, true, false,
 use Rattle.std.specs.Prelude.{unwrap_or}
 use Rattle.clap.specs.Simple.{app_of}
 use Rattle.command_line.specs.steps.AskedMerges.{shrink_given, text_of, verify_given}
-use Rattle.command_line.specs.Commands.{AreOfCommand, AsksPlain, AsksCheck, four}
+use Rattle.command_line.specs.Commands.{AreOfCommand, AsksPlain, AsksCheck, flags_of, four}
 use Rattle.command_line.proofs.Asking.{are_texts, asked_fits, check_fits, failed, four_fit, merging_fits, parsed, refused_calls, same_name}
 use Rattle.command_line.proofs.Settling.{Merges, met_check, met_merging, met_plain, not_both_merge, not_check, not_plain, said_once, settled_asked, settled_called, settled_granted}
 use Rattle.command_line.proofs.command_words.read_words.Goals as goal
@@ -26,10 +26,10 @@ returns-in-Err-clause-shrink_granted c = λ s f o e m t asks.
     (four s f o e m t) asks.0 (four_fit true s f o e m t (λ x. absurd (true≢false x))) refl))
 
 pub returns-in-Err-clause-verify_granted : goal.returns-in-Err-clause-verify_granted
-returns-in-Err-clause-verify_granted c = λ s f o e m asks.
+returns-in-Err-clause-verify_granted c = λ s f o e m i asks.
     c.refused.ensures.memory (failed (app_of c.in_ok-stepmin.field-0) (map string_bytes c.args.words.now)
     c.in-Err.error c.in_ok-stepmin.ensures c.in-Err.ensures.kinds (merging_fits (map string_bytes c.args.words.now)
-    false (four s f o e m false) asks.0 (four_fit false s f o e m false (λ x. refl)) refl))
+    false (four s f o e m (flags_of i false)) asks.0 (four_fit false s f o e m (flags_of i false) (λ x. refl)) refl))
 
 pub returns-in-Err-clause-refused : goal.returns-in-Err-clause-refused
 returns-in-Err-clause-refused c =
@@ -83,7 +83,7 @@ returns-in-Some-shrink_in-clause-refused c =
       asked.output.now,
       asked.certificate.now,
       text_of asked.merge,
-      asked.strict,
+      flags_of asked.in_sets asked.strict,
       inl of,
       sym c.clash-said.ensures ∙ said,
     ))
@@ -116,7 +116,7 @@ returns-in-Some-shrink_in-clause-shrink_granted c =
     let same : shrink_given asked ≡ k.all = c.in-Some-shrink_in.ensures.values k.all k.are k.found in
     λ s f o e m t asks. settled_granted _ _ c.settled.result c.settled.ensures (c.clash-said.ensures
     ∙ said_once true k asked.schema.now asked.file.now asked.output.now asked.certificate.now (text_of asked.merge)
-    asked.strict same s f o e m t asks.0
+    (flags_of asked.in_sets asked.strict) same s f o e m t asks.0
     (four_fit true s f o e m t (λ x. absurd (true≢false x))) ∙ asks.1)
 
 pub returns-in-Some-shrink_in-clause-verify_granted : goal.returns-in-Some-shrink_in-clause-verify_granted
@@ -126,7 +126,7 @@ returns-in-Some-shrink_in-clause-verify_granted c =
     let k : Merges true words c.in-Ok.matches = met_merging true (parsed (app_of c.in_ok-stepmin.field-0) words
     c.in-Ok.matches c.in_ok-stepmin.ensures (are_texts c.args.words.now) c.in-Ok.ensures.kinds c.in-Ok.ensures.matches)
     (sym c.in-Some-shrink_in.ensures.command ∙ same_name _) in
-    λ s f o e m asks. absurd (not_both_merge words k.all (four s f o e m false) k.of asks.0)
+    λ s f o e m i asks. absurd (not_both_merge words k.all (four s f o e m (flags_of i false)) k.of asks.0)
 
 pub returns-in-Some-verify_in-clause-asked : goal.returns-in-Some-verify_in-clause-asked
 returns-in-Some-verify_in-clause-asked c =
@@ -156,7 +156,7 @@ returns-in-Some-verify_in-clause-refused c =
       asked.output.now,
       asked.certificate.now,
       text_of asked.merge,
-      false,
+      flags_of asked.in_sets false,
       inr of,
       sym c.clash-said-in-Some-verify_in.ensures ∙ said,
     ))
@@ -196,7 +196,7 @@ returns-in-Some-verify_in-clause-verify_granted c =
     c.in-Ok.matches c.in_ok-stepmin.ensures (are_texts c.args.words.now) c.in-Ok.ensures.kinds c.in-Ok.ensures.matches)
     (sym c.in-Some-verify_in.ensures.command ∙ same_name _) in
     let same : verify_given asked false ≡ k.all = ap (verify_given asked) (sym (k.fits.1 refl)) ∙ c.in-Some-verify_in.ensures.values k.all k.are k.found in
-    λ s f o e m asks. settled_granted _ _ c.settled-in-Some-verify_in.result c.settled-in-Some-verify_in.ensures (c.clash-said-in-Some-verify_in.ensures
+    λ s f o e m i asks. settled_granted _ _ c.settled-in-Some-verify_in.result c.settled-in-Some-verify_in.ensures (c.clash-said-in-Some-verify_in.ensures
     ∙ said_once false k asked.schema.now asked.file.now asked.output.now asked.certificate.now (text_of asked.merge)
-    false same s f o e m false asks.0
-    (four_fit false s f o e m false (λ x. refl)) ∙ asks.1)
+    (flags_of asked.in_sets false) same s f o e m (flags_of i false) asks.0
+    (four_fit false s f o e m (flags_of i false) (λ x. refl)) ∙ asks.1)

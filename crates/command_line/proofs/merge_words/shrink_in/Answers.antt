@@ -15,7 +15,7 @@ returns-clause-values c = λ given are has.
     let values = values_among (subcommand_rows_of c.args.matches.now) (codes "shrink") (values_of true given)
     (rows_of inner) has c.in_ok-found.ensures.rows in
     c.shrinking.ensures ∙ ap (verify_given asked)
-    (flag_is given.strict c.get_flag.result _
-    (one_text-rows inner (codes "strict") ∙ ap (λ (v : Values). v.5) values)
+    (flag_is given.flags.strict c.get_flag.result _
+    (one_text-rows inner (codes "strict") ∙ ap (λ (v : Values). v.6) values)
     c.get_flag.ensures.value c.get_flag.ensures.other)
     ∙ c.in_ok-asked.ensures given true are values

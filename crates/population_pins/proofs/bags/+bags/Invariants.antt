@@ -17,4 +17,4 @@ decreases-pin_in_bags_of_each l = weight_of l.values.now
 
 abbrev pub invariant-pin_in_bags_of_each-loop-i : goal.invariant-pin_in_bags_of_each-loop-i
 invariant-pin_in_bags_of_each-loop-i l =
-    PinsUpTo (λ y. InBagOf y l.values) (λ y. InBagOf y (after l.i l.values)) l.fn.pinned l.pinned
+    PinsUpTo (λ y. InBagOf l.in_sets y l.values) (λ y. InBagOf l.in_sets y (after l.i l.values)) l.fn.pinned l.pinned

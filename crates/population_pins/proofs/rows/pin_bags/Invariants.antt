@@ -10,6 +10,6 @@ use Rattle.population_pins.proofs.rows.pin_bags.Given as goal
 
 abbrev pub invariant-loop-i : goal.invariant-loop-i
 invariant-loop-i l =
-    (s : Schema) → PinsUpTo (λ y. OneOf (λ (x : Slot). InBag y x.value) (slots_seen s l.slots l.values))
-    (λ y. OneOf (λ (x : Slot). InBag y x.value) (slots_seen s (drop l.i l.slots) (after l.i l.values))) l.fn.pinned
+    (s : Schema) → PinsUpTo (λ y. OneOf (λ (x : Slot). InBag l.in_sets y x.value) (slots_seen s l.slots l.values))
+    (λ y. OneOf (λ (x : Slot). InBag l.in_sets y x.value) (slots_seen s (drop l.i l.slots) (after l.i l.values))) l.fn.pinned
     l.pinned

@@ -22,8 +22,8 @@ returns c s =
     let keyed = c.pin_keys.new.pinned in
     let new = c.pin_bags.new.pinned in
     let Key : List ℕ → ℕ → Type 0 = λ ps y. OneOf (λ p. OccursAt y (nth vs p)) ps in
-    let Bag : List SlotForm → ℕ → Type 0 = λ xs y. OneOf (λ (z : Slot). InBag y z.value) (slots_seen s xs vs) in
-    on_ok_weaker {Q = Pins (PinnedBy s x r n vs) old new} _
+    let Bag : List SlotForm → ℕ → Type 0 = λ xs y. OneOf (λ (z : Slot). InBag c.args.in_sets y z.value) (slots_seen s xs vs) in
+    on_ok_weaker {Q = Pins (PinnedBy s c.args.in_sets x r n vs) old new} _
     (λ p. pins-both (PinnedAt r n) (λ y. Key r.keys.items y ⊎ Bag x.slots.items y) old c.pin_itself.new.pinned new
     c.in_ok-pin_itself.ensures
     (pins-both (Key r.keys.items) (Bag x.slots.items) c.pin_itself.new.pinned keyed new

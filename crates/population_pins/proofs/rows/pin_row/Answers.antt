@@ -19,7 +19,7 @@ returns c s =
     let rules = c.in-Some-get-2.ensures.lookup in
     let form-at : slice_get forms n ≡ Some x = slice_get-get_or forms n x form.3.0 ∙ ap Some (sym form.1) in
     let rules-at : slice_get rows n ≡ Some r = slice_get-get_or rows n r rules.3.0 ∙ ap Some (sym rules.1) in
-    subst (λ o. OnOk c.pin_instance.result (Pins (PinnedAmong s forms rows o name vs) old new)) (sym c.in-Some.is)
-    (subst (λ o. OnOk c.pin_instance.result (Pins (PinnedWith s o (slice_get rows n) name vs) old new)) (sym form-at)
-    (subst (λ o. OnOk c.pin_instance.result (Pins (PinnedWith s (Some x) o name vs) old new)) (sym rules-at)
+    subst (λ o. OnOk c.pin_instance.result (Pins (PinnedAmong s c.args.in_sets forms rows o name vs) old new)) (sym c.in-Some.is)
+    (subst (λ o. OnOk c.pin_instance.result (Pins (PinnedWith s c.args.in_sets o (slice_get rows n) name vs) old new)) (sym form-at)
+    (subst (λ o. OnOk c.pin_instance.result (Pins (PinnedWith s c.args.in_sets (Some x) o name vs) old new)) (sym rules-at)
     (c.pin_instance.ensures s)))

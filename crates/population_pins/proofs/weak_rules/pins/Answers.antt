@@ -15,24 +15,24 @@ use Rattle.population_pins.proofs.Distinct.{names-distinct}
 use Rattle.population_pins.proofs.weak_rules.pins.Goals as goal
 
 pub returns-clause-pins : goal.returns-clause-pins
-returns-clause-pins c d en names domain are chosen =
+returns-clause-pins c d en those domain are chosen =
     let p = c.args.extents.now.population.now in
     let s = the_schema p.types.now.names in
     let rules = rules_seen s c.args.extents.now.rules.now in
     let is = population_seen p in
-    let ByForm : ℕ → Type 0 = λ y. OneOf (PinsByForm s en names rules.uniques y) is in
+    let ByForm : ℕ → Type 0 = λ y. OneOf (PinsByForm s en those rules.uniques y) is in
     let Side : ℕ → Type 0 = λ y. OneOf (IsInverseSide is y) rules.inverses in
     let Inside : ℕ → Type 0 = λ y. OneOf (StandsInsideUnique s d en y) is in
     let old = c.new-names.result in
     let formed = c.pin_by_forms.new.pinned in
     let sided = c.pin_sides.new.pinned in
     let new = c.gather_elements.new.weak.names in
-    λ y. subst (λ b. IsTrue b ↔ IsWeaklyPinned s d en rules names is y) (sym (c.in_ok-pins.ensures.names y))
-    (from-none (IsWeaklyPinned s d en rules names is) old new c.new-names.ensures.items
-    (pins-alike (λ y. (ByForm y ⊎ Side y) ⊎ Inside y) (IsWeaklyPinned s d en rules names is) old new
-    (together s d en rules names is (names-distinct p))
+    λ y. subst (λ b. IsTrue b ↔ IsWeaklyPinned s d en rules those is y) (sym (c.in_ok-pins.ensures.names y))
+    (from-none (IsWeaklyPinned s d en rules those is) old new c.new-names.ensures.items
+    (pins-alike (λ y. (ByForm y ⊎ Side y) ⊎ Inside y) (IsWeaklyPinned s d en rules those is) old new
+    (together s d en rules those is (names-distinct p))
     (pins-both (λ y. ByForm y ⊎ Side y) Inside old sided new
-    (pins-both ByForm Side old formed sided (c.in_ok-pin_by_forms.ensures en names are chosen) c.in_ok-pin_sides.ensures)
+    (pins-both ByForm Side old formed sided (c.in_ok-pin_by_forms.ensures en those are chosen) c.in_ok-pin_sides.ensures)
     (λ y. c.in_ok-gather_elements.ensures d en domain are (inside y)))) y)
 
 pub returns-clause-lists : goal.returns-clause-lists

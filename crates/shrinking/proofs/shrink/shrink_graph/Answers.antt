@@ -2,7 +2,7 @@ use Rattle.std.proofs.Common.{refl, subst}
 use Rattle.schema_semantics.specs.Parts.{AreUnchecked}
 use Rattle.schema_names.specs.Schemas.{the_schema}
 use Rattle.schema_unchecked_declarations.specs.UncheckedLists.{unchecked_in}
-use Rattle.conformance.specs.Choices.{chosen_names}
+use Rattle.conformance.specs.Choices.{mergeable}
 use Rattle.merge_choices.specs.ChosenEntities.{choice_of}
 use Rattle.reports.specs.declared.fault.Fault.TheVariants.{Unchecked}
 use Rattle.shrinking.specs.Shrinking.{written_to}
@@ -33,7 +33,7 @@ returns-in-Ok-clause-shrinks g c = λ text has.
     settled choice c.args.choice.now.strict text s (g.F.Source.to_come c.args.file.now)
     (written_to g.O.Sink.held c.args.out.now c.shrink_source.new.out)
     (written_to g.C.Sink.held c.args.certificate.now c.shrink_source.new.certificate) c.shrink_source.result has c.if-is_refused.ensures
-    c.in-Ok.ensures.0 (c.shrink_source.ensures.shrinks (chosen_names s choice) c.in-Ok.ensures.1.0)
+    c.in-Ok.ensures.0 (c.shrink_source.ensures.shrinks (mergeable s choice) c.in-Ok.ensures.1.0)
 
 pub returns-clause-shrinks : goal.returns-clause-shrinks
 returns-clause-shrinks g c = λ text has.

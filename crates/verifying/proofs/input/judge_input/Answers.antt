@@ -1,6 +1,6 @@
 use Rattle.std.proofs.Common.{refl, subst, []}
 use Rattle.std.proofs.lemmas.Result.{err_from_is_err_and}
-use Rattle.conformance.specs.Choices.{chosen_names}
+use Rattle.conformance.specs.Choices.{mergeable}
 use Rattle.step_exchange.specs.Exchanges.{structure}
 use Rattle.schema_names.specs.Schemas.{the_schema}
 use Rattle.file_findings.specs.steps.Checking.{ChecksFile}
@@ -23,7 +23,7 @@ pub returns-in-Clean-clause-finds : goal.returns-in-Clean-clause-finds
 returns-in-Clean-clause-finds c schema input header_bytes choice settles are reads =
     let s = the_schema c.args.graph.now.types.names in
     let f = structure c.args.exchange.now in
-    let names = chosen_names s choice in
+    let names = mergeable s choice in
     let clean = subst (ChecksFile s f c.args.chosen.now) c.in-Clean.is c.in_ok-checked.ensures in
     let input_is : IsConformingInput s input f = record {
       header_bytes = header_bytes;

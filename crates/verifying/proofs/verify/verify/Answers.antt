@@ -1,6 +1,6 @@
 use Rattle.std.proofs.Common.{◌≡◌, None, subst, sym, Err}
 use Rattle.express_syntax.specs.SchemaViews.{schema_of}
-use Rattle.conformance.specs.Choices.{chosen_names, unknown_choice}
+use Rattle.conformance.specs.Choices.{mergeable, unknown_choice}
 use Rattle.merge_choices.specs.ChosenEntities.{choice_of, AreChosen, AreOfEntities, IsChoiceFault}
 use Rattle.verifying.specs.Verifying.{Verifies}
 use Rattle.verifying.specs.steps.ComputedPassing.{AnswersSettled}
@@ -48,7 +48,7 @@ returns c =
     let chosen = c.in-Ok-settle.chosen in
     let same = c.in-Ok-resolve.ensures.same in
     let (known, are) = subst (λ t. (unknown_choice (schema_of t) choice ≡ None)
-    × (AreChosen (schema_of t) (chosen_names (schema_of t) choice) chosen × AreOfEntities (schema_of t) chosen)) same
+    × (AreChosen (schema_of t) (mergeable (schema_of t) choice) chosen × AreOfEntities (schema_of t) chosen)) same
     c.in-Ok-settle.ensures in
     subst (λ t. AnswersSettled (schema_of t) c.args.output.now c.args.certificate.items c.verify_input.result chosen
     c.args.input.now) same c.verify_input.ensures schema choice
