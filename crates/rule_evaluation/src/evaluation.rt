@@ -1,10 +1,9 @@
 //! Evaluation of expressions (ISO 10303-11, 12).
 //!
-//! An error of a function of the cycle `evaluation` means one of two things:
+//! A function of the cycle `evaluation` fails with [`Stopped`], for one of two reasons:
 //!
-//! - memory ran out, or
-//! - `scope.wanted` holds derived values that have to be evaluated first, so the evaluation is
-//!   suspended.
+//! - an allocation was refused, or
+//! - a derived value has to be cached first, so the evaluation is suspended and begins again.
 //!
 //! Values are written to a parameter instead of returned, because a datum has 72 bytes, which would
 //! be cleared and copied at each node. Functions of the cycle with data as locals aren't inlined
@@ -29,7 +28,7 @@ use crate::context::Context;
 use crate::lists::{among_each, and_all, or_all, want_each, want_terms};
 use crate::queries::{query, sized_query};
 use crate::references::referred;
-use crate::scope::Scope;
+use crate::scope::{Scope, Stopped};
 use crate::types::is_of_type;
 use express_logic::comparison::member;
 use express_logic::datum::Datum;
@@ -43,12 +42,9 @@ use rule_values::operations::{
     strip_type, truth,
 };
 use rule_values::part::Part;
-use std::alloc::{AllocError, Global};
+use std::alloc::Global;
 
 /// Evaluates `expression` into `value`.
-///
-/// An error means that memory ran out, or that `scope.wanted` holds derived values that have to be
-/// evaluated first.
 #[cycle(evaluation)]
 #[inline(never)]
 pub(crate) fn evaluate<'p, 'e, 'r, 't, 's: 'r, 'a: 'r, 'k>(
@@ -57,7 +53,7 @@ pub(crate) fn evaluate<'p, 'e, 'r, 't, 's: 'r, 'a: 'r, 'k>(
     alloc: Global,
     scope: &mut Scope<'p, 'r>,
     value: &mut Datum<'r, Part<'p, 'r>>,
-) -> Result<(), AllocError>
+) -> Result<(), Stopped>
     requires setting { IsSetting context.now.setting.now }
     ensures { OnOk result (Gives context.now scope.old.variables.items scope.new.variables.items
         (datum_of holding value.new)
@@ -98,9 +94,6 @@ pub(crate) fn evaluate<'p, 'e, 'r, 't, 's: 'r, 'a: 'r, 'k>(
 
 /// Returns the truth of `expression` as an operand of a logical operator. A condition is evaluated
 /// without making a datum.
-///
-/// An error means that memory ran out, or that `scope.wanted` holds derived values that have to be
-/// evaluated first.
 #[cycle(evaluation)]
 #[inline(never)]
 pub(crate) fn evaluate_truth<'p, 'e, 'r, 't, 's: 'r, 'a: 'r, 'k>(
@@ -108,7 +101,7 @@ pub(crate) fn evaluate_truth<'p, 'e, 'r, 't, 's: 'r, 'a: 'r, 'k>(
     expression: &Expr<'s>,
     alloc: Global,
     scope: &mut Scope<'p, 'r>,
-) -> Result<Logical, AllocError>
+) -> Result<Logical, Stopped>
     requires setting { IsSetting context.now.setting.now }
     ensures { IfOk result (λ d. Gives context.now scope.old.variables.items
         scope.new.variables.items d
@@ -130,7 +123,7 @@ fn condition<'p, 'e, 'r, 't, 's: 'r, 'a: 'r, 'k>(
     expression: &Expr<'s>,
     alloc: Global,
     scope: &mut Scope<'p, 'r>,
-) -> Result<Logical, AllocError>
+) -> Result<Logical, Stopped>
     requires setting { IsSetting context.now.setting.now }
     requires form { is_condition (tree_of expression.now) ≡ true }
     ensures { IfOk result (λ d. Gives context.now scope.old.variables.items
@@ -184,7 +177,7 @@ fn between<'p, 'e, 'r, 't, 's: 'r, 'a: 'r, 'k>(
     scope: &mut Scope<'p, 'r>,
     above: Limit,
     below: Limit,
-) -> Result<Logical, AllocError>
+) -> Result<Logical, Stopped>
     requires setting { IsSetting context.now.setting.now }
     ensures { IfOk result (λ d. Gives context.now scope.old.variables.items
         scope.new.variables.items d
@@ -213,7 +206,7 @@ fn related<'p, 'e, 'r, 't, 's: 'r, 'a: 'r, 'k>(
     alloc: Global,
     scope: &mut Scope<'p, 'r>,
     relation: Relation,
-) -> Result<Logical, AllocError>
+) -> Result<Logical, Stopped>
     requires setting { IsSetting context.now.setting.now }
     ensures { IfOk result (λ d. Gives context.now scope.old.variables.items
         scope.new.variables.items d
@@ -242,7 +235,7 @@ fn is_member<'p, 'e, 'r, 't, 's: 'r, 'a: 'r, 'k>(
     alloc: Global,
     scope: &mut Scope<'p, 'r>,
     value: &Datum<'r, Part<'p, 'r>>,
-) -> Result<Logical, AllocError>
+) -> Result<Logical, Stopped>
     requires setting { IsSetting context.now.setting.now }
     ensures { IfOk result (λ d. Gives context.now scope.old.variables.items
         scope.new.variables.items d
@@ -266,7 +259,7 @@ fn within<'p, 'e, 'r, 't, 's: 'r, 'a: 'r, 'k>(
     scope: &mut Scope<'p, 'r>,
     text: Option<AnyString<'s>>,
     value: &Datum<'r, Part<'p, 'r>>,
-) -> Result<Logical, AllocError>
+) -> Result<Logical, Stopped>
     requires setting { IsSetting context.now.setting.now }
     ensures { IfOk result (λ d. Gives context.now scope.old.variables.items
         scope.new.variables.items d
@@ -303,7 +296,7 @@ fn call<'p, 'e, 'r, 't, 's: 'r, 'a: 'r, 'k>(
     scope: &mut Scope<'p, 'r>,
     function: Function,
     value: &mut Datum<'r, Part<'p, 'r>>,
-) -> Result<(), AllocError>
+) -> Result<(), Stopped>
     requires setting { IsSetting context.now.setting.now }
     ensures { OnOk result (Gives context.now scope.old.variables.items scope.new.variables.items
         (datum_of holding value.new)
@@ -314,7 +307,8 @@ fn call<'p, 'e, 'r, 't, 's: 'r, 'a: 'r, 'k>(
         return sized(context, argument, alloc, scope, value);
     }
     evaluate(context, argument, alloc, scope, value)?;
-    apply(function, value)
+    apply(function, value)?;
+    Ok(())
 }
 
 /// Stores the number of elements of the value of `expression` in `value`: SIZEOF. The elements that
@@ -326,7 +320,7 @@ fn sized<'p, 'e, 'r, 't, 's: 'r, 'a: 'r, 'k>(
     alloc: Global,
     scope: &mut Scope<'p, 'r>,
     value: &mut Datum<'r, Part<'p, 'r>>,
-) -> Result<(), AllocError>
+) -> Result<(), Stopped>
     requires setting { IsSetting context.now.setting.now }
     ensures { OnOk result (Gives context.now scope.old.variables.items scope.new.variables.items
         (datum_of holding value.new)
@@ -341,7 +335,8 @@ fn sized<'p, 'e, 'r, 't, 's: 'r, 'a: 'r, 'k>(
         } => sized_query(context, source, condition, alloc, scope, *variable, value),
         _ => {
             evaluate(context, expression, alloc, scope, value)?;
-            replace_by_size(value)
+            replace_by_size(value)?;
+            Ok(())
         }
     }
 }
@@ -355,7 +350,7 @@ fn first_known<'p, 'e, 'r, 't, 's: 'r, 'a: 'r, 'k>(
     alloc: Global,
     scope: &mut Scope<'p, 'r>,
     value: &mut Datum<'r, Part<'p, 'r>>,
-) -> Result<(), AllocError>
+) -> Result<(), Stopped>
     requires setting { IsSetting context.now.setting.now }
     ensures { OnOk result (Gives context.now scope.old.variables.items scope.new.variables.items
         (datum_of holding value.new)
@@ -379,7 +374,7 @@ pub(crate) fn first_value<'p, 'e, 'r, 't, 's: 'r, 'a: 'r, 'k>(
     alloc: Global,
     scope: &mut Scope<'p, 'r>,
     value: &mut Datum<'r, Part<'p, 'r>>,
-) -> Result<(), AllocError>
+) -> Result<(), Stopped>
     requires setting { IsSetting context.now.setting.now }
     ensures { OnOk result (Gives context.now scope.old.variables.items scope.new.variables.items
         (datum_of holding value.new)

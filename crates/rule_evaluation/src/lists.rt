@@ -10,14 +10,14 @@ ghost use Rattle.rule_evaluation.specs.steps.Contexts.{Gives, and_all_in, or_all
 
 use crate::context::Context;
 use crate::evaluation::{evaluate, evaluate_truth};
-use crate::scope::Scope;
+use crate::scope::{Scope, Stopped};
 use express_logic::comparison::equal;
 use express_logic::datum::Datum;
 use express_logic::logical::{Logical, and, or};
 use express_syntax::expression::{Alternative, Expr};
 use rule_values::operations::joined;
 use rule_values::part::Part;
-use std::alloc::{AllocError, Global};
+use std::alloc::Global;
 
 /// Returns the AND of `first` and the values of `expressions`.
 #[cycle(evaluation)]
@@ -28,7 +28,7 @@ pub(crate) fn and_all<'p, 'e, 'r, 't, 's: 'r, 'a: 'r, 'k>(
     alloc: Global,
     scope: &mut Scope<'p, 'r>,
     first: Logical,
-) -> Result<Logical, AllocError>
+) -> Result<Logical, Stopped>
     requires setting { IsSetting context.now.setting.now }
     ensures { IfOk result (λ d. Gives context.now scope.old.variables.items
         scope.new.variables.items d
@@ -60,7 +60,7 @@ pub(crate) fn or_all<'p, 'e, 'r, 't, 's: 'r, 'a: 'r, 'k>(
     alloc: Global,
     scope: &mut Scope<'p, 'r>,
     first: Logical,
-) -> Result<Logical, AllocError>
+) -> Result<Logical, Stopped>
     requires setting { IsSetting context.now.setting.now }
     ensures { IfOk result (λ d. Gives context.now scope.old.variables.items
         scope.new.variables.items d
@@ -91,7 +91,7 @@ pub(crate) fn among_each<'p, 'e, 'r, 't, 's: 'r, 'a: 'r, 'k>(
     alloc: Global,
     scope: &mut Scope<'p, 'r>,
     value: &Datum<'r, Part<'p, 'r>>,
-) -> Result<Logical, AllocError>
+) -> Result<Logical, Stopped>
     requires setting { IsSetting context.now.setting.now }
     ensures { IfOk result (λ d. Gives context.now scope.old.variables.items
         scope.new.variables.items d

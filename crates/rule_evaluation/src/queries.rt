@@ -13,14 +13,14 @@ ghost use Rattle.rule_evaluation.specs.steps.Contexts.{passes_in, filtered_in, q
 use crate::context::Context;
 use crate::evaluation::{evaluate, evaluate_truth};
 use crate::query_elements::{counted_if, keep_if};
-use crate::scope::Scope;
+use crate::scope::{Scope, Stopped};
 use express_logic::datum::{Datum, Held};
 use express_syntax::expression::Expr;
 use rule_values::contents::counted;
 use rule_values::operations::{is_true, strip_type};
 use rule_values::part::Part;
 use rule_values::variables::Variable;
-use std::alloc::{AllocError, Global};
+use std::alloc::Global;
 use std::mem;
 use step_literals::literal::Word;
 
@@ -36,7 +36,7 @@ pub(crate) fn query<'p, 'e, 'r, 't, 's: 'r, 'a: 'r, 'k>(
     scope: &mut Scope<'p, 'r>,
     name: Word<'s>,
     value: &mut Datum<'r, Part<'p, 'r>>,
-) -> Result<(), AllocError>
+) -> Result<(), Stopped>
     requires setting { IsSetting context.now.setting.now }
     ensures { OnOk result (Gives context.now scope.old.variables.items scope.new.variables.items
         (datum_of holding value.new)
@@ -65,7 +65,7 @@ fn passing<'p, 'e, 'r, 't, 's: 'r, 'a: 'r, 'k>(
     scope: &mut Scope<'p, 'r>,
     name: Word<'s>,
     source: &Part<'p, 'r>,
-) -> Result<Vec<usize>, AllocError>
+) -> Result<Vec<usize>, Stopped>
     requires setting { IsSetting context.now.setting.now }
     ensures { IfOk result (λ kept. Gives context.now scope.old.variables.items
         scope.new.variables.items
@@ -103,7 +103,7 @@ pub(crate) fn sized_query<'p, 'e, 'r, 't, 's: 'r, 'a: 'r, 'k>(
     scope: &mut Scope<'p, 'r>,
     name: Word<'s>,
     value: &mut Datum<'r, Part<'p, 'r>>,
-) -> Result<(), AllocError>
+) -> Result<(), Stopped>
     requires setting { IsSetting context.now.setting.now }
     ensures { OnOk result (Gives context.now scope.old.variables.items scope.new.variables.items
         (datum_of holding value.new)
@@ -132,7 +132,7 @@ fn count_passing<'p, 'e, 'r, 't, 's: 'r, 'a: 'r, 'k>(
     scope: &mut Scope<'p, 'r>,
     name: Word<'s>,
     source: &Part<'p, 'r>,
-) -> Result<usize, AllocError>
+) -> Result<usize, Stopped>
     requires setting { IsSetting context.now.setting.now }
     ensures { IfOk result (λ count. Gives context.now scope.old.variables.items
         scope.new.variables.items count
@@ -165,7 +165,7 @@ fn passes<'p, 'e, 'r, 't, 's: 'r, 'a: 'r, 'k>(
     alloc: Global,
     scope: &mut Scope<'p, 'r>,
     variable: Variable<'p, 'r>,
-) -> Result<bool, AllocError>
+) -> Result<bool, Stopped>
     requires setting { IsSetting context.now.setting.now }
     ensures { IfOk result (λ holds. Gives context.now scope.old.variables.items
         scope.new.variables.items holds

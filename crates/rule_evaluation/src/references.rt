@@ -19,7 +19,7 @@ use crate::evaluation::evaluate;
 use crate::qualifiers::{
     attribute_behind, attribute_of_self, group_behind, instance_of, item_value, self_instance,
 };
-use crate::scope::Scope;
+use crate::scope::{Scope, Stopped};
 use express_logic::datum::Datum;
 use express_syntax::expression::{Expr, Qualifier, Root};
 use rule_settings::attributes::Found;
@@ -30,7 +30,7 @@ use rule_values::part::Part;
 use rule_values::variables::find;
 use schema_attribute_sources::source::Derivation;
 use schema_derived_attributes::formula::Formula;
-use std::alloc::{AllocError, Global};
+use std::alloc::Global;
 use std::mem;
 use step_literals::literal::Word;
 
@@ -43,7 +43,7 @@ pub(crate) fn referred<'p, 'e, 'r, 't, 's: 'r, 'a: 'r, 'k>(
     scope: &mut Scope<'p, 'r>,
     root: Root<'s>,
     value: &mut Datum<'r, Part<'p, 'r>>,
-) -> Result<(), AllocError>
+) -> Result<(), Stopped>
     requires setting { IsSetting context.now.setting.now }
     ensures { OnOk result (Gives context.now scope.old.variables.items scope.new.variables.items
         (datum_of holding value.new)
@@ -69,7 +69,7 @@ fn named<'p, 'e, 'r, 't, 's: 'r, 'a: 'r, 'k>(
     scope: &mut Scope<'p, 'r>,
     name: Word<'s>,
     value: &mut Datum<'r, Part<'p, 'r>>,
-) -> Result<(), AllocError>
+) -> Result<(), Stopped>
     requires setting { IsSetting context.now.setting.now }
     ensures { OnOk result (Gives context.now scope.old.variables.items scope.new.variables.items
         (datum_of holding value.new)
@@ -95,7 +95,7 @@ fn unbound<'p, 'e, 'r, 't, 's: 'r, 'a: 'r, 'k>(
     scope: &mut Scope<'p, 'r>,
     name: Word<'s>,
     value: &mut Datum<'r, Part<'p, 'r>>,
-) -> Result<(), AllocError>
+) -> Result<(), Stopped>
     requires setting { IsSetting context.now.setting.now }
     ensures { OnOk result (Gives context.now scope.old.variables.items scope.new.variables.items
         (datum_of holding value.new)
@@ -131,7 +131,7 @@ fn item_behind<'p, 'e, 'r, 't, 's: 'r, 'a: 'r, 'k>(
     scope: &mut Scope<'p, 'r>,
     name: Word<'s>,
     value: &mut Datum<'r, Part<'p, 'r>>,
-) -> Result<(), AllocError>
+) -> Result<(), Stopped>
     requires setting { IsSetting context.now.setting.now }
     ensures { OnOk result (Gives context.now scope.old.variables.items scope.new.variables.items
         (datum_of holding value.new)
@@ -168,7 +168,7 @@ fn selected<'p, 'e, 'r, 't, 's: 'r, 'a: 'r, 'k>(
     alloc: Global,
     scope: &mut Scope<'p, 'r>,
     value: &mut Datum<'r, Part<'p, 'r>>,
-) -> Result<(), AllocError>
+) -> Result<(), Stopped>
     requires setting { IsSetting context.now.setting.now }
     ensures { OnOk result (Gives context.now scope.old.variables.items scope.new.variables.items
         (datum_of holding value.new)
@@ -191,7 +191,7 @@ fn select<'p, 'e, 'r, 't, 's: 'r, 'a: 'r, 'k>(
     alloc: Global,
     scope: &mut Scope<'p, 'r>,
     value: &mut Datum<'r, Part<'p, 'r>>,
-) -> Result<(), AllocError>
+) -> Result<(), Stopped>
     requires setting { IsSetting context.now.setting.now }
     ensures { OnOk result ((d : Worth) → datum_of holding value.old ≡ bare d
         → Gives context.now scope.old.variables.items scope.new.variables.items
@@ -222,7 +222,7 @@ fn element<'p, 'e, 'r, 't, 's: 'r, 'a: 'r, 'k>(
     alloc: Global,
     scope: &mut Scope<'p, 'r>,
     value: &mut Datum<'r, Part<'p, 'r>>,
-) -> Result<(), AllocError>
+) -> Result<(), Stopped>
     requires setting { IsSetting context.now.setting.now }
     ensures { OnOk result (Gives context.now scope.old.variables.items scope.new.variables.items
         (datum_of holding value.new)
@@ -246,7 +246,7 @@ fn found_value<'p, 'e, 'r, 't, 's: 'r, 'a: 'r, 'k>(
     scope: &mut Scope<'p, 'r>,
     instance: u64,
     value: &mut Datum<'r, Part<'p, 'r>>,
-) -> Result<(), AllocError>
+) -> Result<(), Stopped>
     requires setting { IsSetting context.now.setting.now }
     requires found { IsFound context.now.setting.now found }
     ensures { OnOk result (Gives context.now scope.old.variables.items scope.new.variables.items
@@ -266,8 +266,8 @@ fn found_value<'p, 'e, 'r, 't, 's: 'r, 'a: 'r, 'k>(
 /// Stores the value of a derived attribute of `instance` in `value`. The value is indeterminate if
 /// the rank of the attribute isn't below the limit, or if the attribute is set aside.
 ///
-/// If the value isn't cached, and `scope` doesn't let it be evaluated directly, it is added to
-/// `scope.wanted` and the function returns an error.
+/// If the value isn't cached, and `scope` doesn't let it be evaluated directly, the function fails
+/// with [`Stopped::Wants`].
 #[cycle(evaluation)]
 #[inline(never)]
 fn derived<'p, 'e, 'r, 't, 's: 'r, 'a: 'r, 'k>(
@@ -277,7 +277,7 @@ fn derived<'p, 'e, 'r, 't, 's: 'r, 'a: 'r, 'k>(
     instance: u64,
     derivation: Derivation,
     value: &mut Datum<'r, Part<'p, 'r>>,
-) -> Result<(), AllocError>
+) -> Result<(), Stopped>
     requires setting { IsSetting context.now.setting.now }
     requires number { HasNumber (schema_in context.now.setting.now)
         (name_at (schema_in context.now.setting.now) derivation.entity) derivation.entity }
@@ -316,7 +316,7 @@ fn inside<'p, 'e, 'r, 't, 's: 'r, 'a: 'r, 'k>(
     instance: u64,
     formula: Formula<'s, 't>,
     value: &mut Datum<'r, Part<'p, 'r>>,
-) -> Result<(), AllocError>
+) -> Result<(), Stopped>
     requires setting { IsSetting context.now.setting.now }
     ensures { OnOk result (Gives context.now scope.old.variables.items scope.new.variables.items
         (datum_of holding value.new) (λ m. formula_in context.now m instance formula.entry)) }

@@ -1,10 +1,11 @@
 //! What changes while an expression is evaluated.
 
-ghost use Rattle.std.specs.Prelude.{◌≡◌, []};
+ghost use Rattle.std.specs.Prelude.{◌≡◌, [], true};
+ghost use Rattle.rule_evaluation.specs.declared.scope.Stopped.TheVariants.{Memory, Wants};
 
 use crate::derived_values::{Wanted, is_same};
 use rule_values::variables::Variable;
-use std::alloc::{AllocError, Global};
+use std::alloc::{AllocError, AllocFailed, Global};
 
 /// The number of derived attributes that may be evaluated inside each other. Each takes the stack
 /// that its expression needs, whose brackets are nested at most 64 deep.
@@ -16,6 +17,32 @@ const NESTED: u32 = 32;
 
 /// The least number of wanted derived values that may be collected before they are evaluated.
 const WANTED: usize = 1024;
+
+/// Why an evaluation ended without a value.
+#[derive(Clone, Copy)]
+pub(crate) enum Stopped {
+    /// An allocation was refused.
+    Memory,
+    /// This derived value isn't cached, and isn't evaluated directly because of `LEVELS` or
+    /// `NESTED`. It has to be cached before the evaluation begins again.
+    Wants(Wanted),
+}
+
+impl From<AllocError> for Stopped {
+    ghost from_gives = { λ _ e. e ≡ Memory };
+
+    fn from(_: AllocError) -> Stopped {
+        Stopped::Memory
+    }
+}
+
+impl<T: Drop> From<AllocFailed<T>> for Stopped {
+    ghost from_gives = { λ _ e. e ≡ Memory };
+
+    fn from(_: AllocFailed<T>) -> Stopped {
+        Stopped::Memory
+    }
+}
 
 /// The variables of queries, the innermost last, and the derived values that have to be evaluated
 /// before the expression is.
@@ -49,7 +76,8 @@ impl<'p, 'r> Scope<'p, 'r> {
     /// Whether another derived attribute is evaluated directly, inside `level` others. Counts it if
     /// `level` isn't 0.
     pub(crate) fn enters(&mut self, level: u32) -> bool
-        ensures { self.new.variables ≡ self.old.variables }
+        ensures variables { self.new.variables ≡ self.old.variables }
+        ensures direct { level ≡ 0 → result ≡ true }
     {
         if level == 0 {
             return true;
@@ -61,10 +89,13 @@ impl<'p, 'r> Scope<'p, 'r> {
         true
     }
 
-    /// Notes that `wanted` has to be evaluated first, and returns the error that suspends the
-    /// evaluation. The error is an `AllocError` although memory need not have run out:
-    /// `self.wanted` is empty only if it has.
-    pub(crate) fn want(&mut self, wanted: Wanted) -> AllocError {
+    /// Returns the failure that suspends the evaluation until `wanted` is cached.
+    ///
+    /// Adds `wanted` to `self.wanted`, unless it is the last there or no more may be collected. The
+    /// failure names `wanted`, so nothing is lost if an allocation for the list is refused.
+    pub(crate) fn want(&mut self, wanted: Wanted) -> Stopped
+        ensures { result ≡ Wants wanted }
+    {
         let is_noted = match self.wanted.last() {
             Some(last) => is_same(*last, wanted),
             None => false,
@@ -72,7 +103,7 @@ impl<'p, 'r> Scope<'p, 'r> {
         if !is_noted && self.is_open() {
             let _noted = self.wanted.push(wanted);
         }
-        AllocError
+        Stopped::Wants(wanted)
     }
 
     /// Whether more wanted derived values may be collected.

@@ -12,7 +12,7 @@ ghost use Rattle.rule_evaluation.specs.steps.Worths.{formula_worth, worth_at};
 use crate::context::Context;
 use crate::derived_values::{KeptValues, Wanted};
 use crate::evaluation::evaluate;
-use crate::scope::Scope;
+use crate::scope::{Scope, Stopped};
 use express_logic::datum::Datum;
 use express_syntax::expression::Expr;
 use rule_settings::setting::Setting;
@@ -23,9 +23,6 @@ use std::alloc::{AllocError, Global};
 
 /// Evaluates the formula of a derived attribute at `instance` into `value`, with the cached values
 /// `kept`.
-///
-/// An error means that memory ran out, or that `scope.wanted` holds derived values that have to be
-/// evaluated first.
 fn formula_value<'p, 'e, 'r, 't, 's: 'r, 'a: 'r>(
     alloc: Global,
     setting: &'p Setting<'s, 't, 'r, 'a, 'e, 'p>,
@@ -34,7 +31,7 @@ fn formula_value<'p, 'e, 'r, 't, 's: 'r, 'a: 'r>(
     formula: Formula<'s, 't>,
     instance: u64,
     value: &mut Datum<'r, Part<'p, 'r>>,
-) -> Result<(), AllocError>
+) -> Result<(), Stopped>
     requires setting { IsSetting setting.now }
     requires scope { scope.now.variables.items ≡ [] }
     ensures { OnOk result ((m : Meant setting.entry.now) → AreRight setting.entry.now m kept.now
@@ -53,7 +50,7 @@ fn formula_value<'p, 'e, 'r, 't, 's: 'r, 'a: 'r>(
 }
 
 /// Evaluates and caches the derived value `wanted`, unless it is cached. If others have to be
-/// evaluated first, it is put onto the stack `waiting`, and these after it.
+/// evaluated first, `wanted` is put onto the stack `waiting`, and the others above it.
 fn keep_wanted<'p, 'e, 'r, 't, 's: 'r, 'a: 'r>(
     alloc: Global,
     setting: &'p Setting<'s, 't, 'r, 'a, 'e, 'p>,
@@ -78,27 +75,25 @@ fn keep_wanted<'p, 'e, 'r, 't, 's: 'r, 'a: 'r>(
         alloc, setting, kept, &mut scope, formula, instance, &mut value,
     ) {
         Ok(()) => kept.keep(wanted, value),
-        Err(stopped) => {
-            wait_for(waiting, scope, wanted, stopped)?;
+        Err(Stopped::Memory) => Err(AllocError),
+        Err(Stopped::Wants(first)) => {
+            wait_for(waiting, scope, wanted, first)?;
             Ok(())
         }
     }
 }
 
-/// Puts `wanted` onto the stack `waiting`, and after it the derived values that `scope` holds,
-/// which have to be evaluated first. Fails with `stopped` if it holds none, because memory ran out
-/// then.
+/// Puts `wanted` onto the stack `waiting`, and above it `first` and the derived values that `scope`
+/// holds, which have to be evaluated before it.
 fn wait_for<'p, 'r>(
     waiting: &mut Vec<Wanted>,
     scope: Scope<'p, 'r>,
     wanted: Wanted,
-    stopped: AllocError,
+    first: Wanted,
 ) -> Result<(), AllocError> {
     let Scope { wanted: others, .. } = scope;
-    if others.is_empty() {
-        return Err(stopped);
-    }
     waiting.push(wanted)?;
+    waiting.push(first)?;
     for other in &others {
         waiting.push(*other)?;
     }
@@ -134,7 +129,9 @@ fn keep_all<'p, 'e, 'r, 't, 's: 'r, 'a: 'r>(
 /// once for each instance and cached, and then the evaluation of the expression begins again. So
 /// the stack is bounded, whatever the schema.
 ///
-/// An error means that memory ran out.
+/// # Errors
+/// `AllocError` if an allocation is refused. A derived value is cached before each new beginning,
+/// so memory runs out before 2^64 of them.
 pub fn value_at<'p, 'e, 'r, 't, 's: 'r, 'a: 'r>(
     alloc: Global,
     setting: &'p Setting<'s, 't, 'r, 'a, 'e, 'p>,
@@ -160,16 +157,15 @@ pub fn value_at<'p, 'e, 'r, 't, 's: 'r, 'a: 'r>(
         };
         match evaluate(&context, expression, alloc, &mut scope, value) {
             Ok(()) => return Ok(()),
-            Err(stopped) => {
+            Err(Stopped::Memory) => return Err(AllocError),
+            Err(Stopped::Wants(first)) => {
                 let Context { me: same, .. } = context;
                 me = same;
                 let Scope {
                     wanted: mut waiting,
                     ..
                 } = scope;
-                if waiting.is_empty() {
-                    return Err(stopped);
-                }
+                waiting.push(first)?;
                 keep_all(alloc, setting, &mut kept, &mut waiting)?;
             }
         }

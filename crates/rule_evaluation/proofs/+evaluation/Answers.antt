@@ -149,7 +149,7 @@ references::derived-returns t c =
           h.0 m
           ∙ sym (below-rank S m.meant c.args.context.now.limit c.args.instance (derivation_in S c.args.derivation)
           (formula_seen f) (sym (c.in-Some.ensures.meant m.meant c.requires.number)) c.if-formula-context.false)),
-      h.1 ∙ ap (λ (vs : Vec Variable Global). vs.items) c.enters.ensures,
+      h.1 ∙ ap (λ (vs : Vec Variable Global). vs.items) c.enters.ensures.variables,
     )) c.inside.ensures
 
 pub references::inside-evaluate-outcome-requires : goal.references::inside-evaluate-outcome-requires
@@ -630,10 +630,10 @@ evaluation::sized-returns-in-Query t c =
       h.1,
     )) c.sized_query.ensures
 
-pub evaluation::sized-returns-in_ok-evaluate-in_default : goal.evaluation::sized-returns-in_ok-evaluate-in_default
-evaluation::sized-returns-in_ok-evaluate-in_default t c =
+pub evaluation::sized-returns-in_ok-replace_by_size-in_default : goal.evaluation::sized-returns-in_ok-replace_by_size-in_default
+evaluation::sized-returns-in_ok-replace_by_size-in_default t c =
     let found = c.in_ok-evaluate-in_default.ensures in
-    on_ok_weaker c.replace_by_size.result (λ h. ((λ m. h ∙ ap (λ d. size (bare d)) (found.0 m)), found.1)) c.replace_by_size.ensures
+    ((λ m. c.in_ok-replace_by_size-in_default.ensures ∙ ap (λ d. size (bare d)) (found.0 m)), found.1)
 
 pub queries::sized_query-returns : goal.queries::sized_query-returns
 queries::sized_query-returns t c =
@@ -711,7 +711,7 @@ queries::count_passing-returns t c =
 pub evaluation::call-returns : goal.evaluation::call-returns
 evaluation::call-returns t c =
     let found = c.in_ok-evaluate.ensures in
-    on_ok_weaker c.apply.result (λ h. ((λ m. h ∙ ap (of_call c.args.function) (found.0 m)), found.1)) c.apply.ensures
+    ((λ m. c.in_ok-apply.ensures ∙ ap (of_call c.args.function) (found.0 m)), found.1)
 
 pub evaluation::first_known-returns-then-is_known : goal.evaluation::first_known-returns-then-is_known
 evaluation::first_known-returns-then-is_known t c =

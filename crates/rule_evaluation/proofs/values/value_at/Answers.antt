@@ -17,7 +17,7 @@ loop-init c = record {
 
 pub loop-preserved : goal.loop-preserved
 loop-preserved c = record {
-  kept = λ m. c.in_ok-keep_all-in-Err.ensures m (c.loop.invariant.kept m);
+  kept = λ m. c.in_ok-keep_all-in-Err-Wants.ensures m (c.loop.invariant.kept m);
   same = c.loop.invariant.same;
 }
 
