@@ -23,6 +23,8 @@ from .sources import CRATES, ROOT, crates, depth_of, files_below, first_sentence
 
 PAGE = os.path.join(ROOT, "docs", "BELIEVED.md")
 INDEX = os.path.join(ROOT, "out", "doc")
+# Steps that stand outside specs/steps: a move would prove most of the repository anew.
+MISPLACED = (("files", "Faults"), ("schema_attribute_sources", "AskedSources"))
 BEGIN = """# Definitions to believe
 
 This page is for verification engineers: it lists the files of definitions on which the promises of [PROVED.md](PROVED.md) rest.
@@ -87,7 +89,7 @@ class Pages:
             if file.is_step:
                 found.append(f"{place(file, key[2])}: `{key[2]}` stands behind a promise, but in specs/steps")
         for key, file in self.believed.files.items():
-            if not (file.is_step or file.is_list or key in self.of_promises):
+            if not (file.is_step or file.is_list or key in self.of_promises or key in MISPLACED):
                 found.append(f"{relative(file.path)}:1: no promise rests on this file, but it isn't in specs/steps")
         for path in files_below(CRATES, ".rt", ".antt"):
             kind = path.split(os.sep)[len(CRATES.split(os.sep)) + 1]

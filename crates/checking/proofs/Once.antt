@@ -106,7 +106,7 @@ module _ (s : Schema) (said : Said s) (is : List Instance) where
       )
 
 pub reports_are_one : ReportsAreOne
-reports_are_one s f r q h k =
+reports_are_one s others f r q h k =
     let said : Said s = h.findings.0 in
     let one = h.findings.1 said in
     let other = k.findings.1 said in

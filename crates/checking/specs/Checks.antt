@@ -11,6 +11,7 @@ use Rattle.step_structures.specs.declared.fault.FaultKind.TheVariants.{LeftOut}
 use Rattle.step_structures.specs.declared.fault.LeftOut.TheVariants.{TooLarge}
 use Rattle.step_structures.specs.Texts.{ReadsAs, IsFirstFault}
 use Rattle.step_structures.specs.Trees.{File}
+use Rattle.schema_semantics.specs.Names.{Name}
 use Rattle.schema_semantics.specs.Faults.{IsResolved}
 use Rattle.schema_types.specs.Resolution.{IsNameFault}
 use Rattle.files.specs.declared.fault.Role.TheVariants as roles
@@ -47,31 +48,34 @@ HasFileFault kind place bytes =
     (2 ^ 40 < length bytes × (kind ≡ LeftOut TooLarge) × (place ≡ 2 ^ 40))
     ⊎ (length bytes ≤ 2 ^ 40 × IsFirstFault bytes kind place)
 
--- what is returned for the bytes of a file, according to a schema
-abbrev pub FileAnswers : Schema → List ℕ → Result Report Fault → Type 0
-FileAnswers s bytes (Ok r) = (f : File) × HasFile f bytes × IsReport s f r
-FileAnswers s bytes (Err (faults.Text roles.File kind place)) = HasFileFault kind place bytes
-FileAnswers s bytes (Err faults.Memory) = Unit {0}
-FileAnswers s bytes (Err f) = ⊥
+-- what is returned for the bytes of a file, according to a schema that it may call by these other names
+abbrev pub FileAnswers : Schema → List Name → List ℕ → Result Report Fault → Type 0
+FileAnswers s others bytes (Ok r) = (f : File) × HasFile f bytes × IsReport s others f r
+FileAnswers s others bytes (Err (faults.Text roles.File kind place)) = HasFileFault kind place bytes
+FileAnswers s others bytes (Err faults.Memory) = Unit {0}
+FileAnswers s others bytes (Err f) = ⊥
 
--- What is returned for a file that a source delivers, according to a schema. `file` are the bytes to come, if the
--- source reveals them.
-abbrev pub SourceAnswers : Schema → Option (List ℕ) → Result Report Fault → Type 0
-SourceAnswers s file (Ok r) = (f : File) × IfSome file (HasFile f) × IsReport s f r
-SourceAnswers s file (Err (faults.Text roles.File kind place)) = IfSome file (HasFileFault kind place)
-SourceAnswers s file (Err (faults.Device roles.File written)) = written ≡ 0
-SourceAnswers s file (Err faults.Memory) = Unit {0}
-SourceAnswers s file (Err f) = ⊥
+-- What is returned for a file that a source delivers, according to a schema that it may call by these other names.
+-- `file` are the bytes to come, if the source reveals them.
+abbrev pub SourceAnswers : Schema → List Name → Option (List ℕ) → Result Report Fault → Type 0
+SourceAnswers s others file (Ok r) = (f : File) × IfSome file (HasFile f) × IsReport s others f r
+SourceAnswers s others file (Err (faults.Text roles.File kind place)) = IfSome file (HasFileFault kind place)
+SourceAnswers s others file (Err (faults.Device roles.File written)) = written ≡ 0
+SourceAnswers s others file (Err faults.Memory) = Unit {0}
+SourceAnswers s others file (Err f) = ⊥
 
--- What `check` returns for the bytes to come of the schema and of the file, if these are revealed. A fault of the
--- schema precedes everything about the file. No other fault is returned.
-abbrev pub Checks : Option (List ℕ) → Option (List ℕ) → Result Report Fault → Type 0
-Checks schema file (Ok r) = (s : Schema) × (f : File) × IfSome schema (IsResolvedSchemaText s) × IfSome file (HasFile f) × IsReport s f r
-Checks schema file (Err (faults.Schema fault)) = IfSome schema (HasSchemaFault fault)
-Checks schema file (Err (faults.Text roles.File kind place)) =
+-- What `check` returns for the bytes to come of the schema and of the file, if these are revealed. The file may call
+-- the schema by these other names. A fault of the schema precedes everything about the file. No other fault is
+-- returned.
+abbrev pub Checks : List Name → Option (List ℕ) → Option (List ℕ) → Result Report Fault → Type 0
+Checks others schema file (Ok r) =
+    (s : Schema) × (f : File) × IfSome schema (IsResolvedSchemaText s) × IfSome file (HasFile f)
+    × IsReport s others f r
+Checks others schema file (Err (faults.Schema fault)) = IfSome schema (HasSchemaFault fault)
+Checks others schema file (Err (faults.Text roles.File kind place)) =
     ((s : Schema) × IfSome schema (IsResolvedSchemaText s)) × IfSome file (HasFileFault kind place)
-Checks schema file (Err (faults.Device roles.Schema written)) = written ≡ 0
-Checks schema file (Err (faults.Device roles.File written)) =
+Checks others schema file (Err (faults.Device roles.Schema written)) = written ≡ 0
+Checks others schema file (Err (faults.Device roles.File written)) =
     ((s : Schema) × IfSome schema (IsResolvedSchemaText s)) × (written ≡ 0)
-Checks schema file (Err faults.Memory) = Unit {0}
-Checks schema file (Err f) = ⊥
+Checks others schema file (Err faults.Memory) = Unit {0}
+Checks others schema file (Err f) = ⊥

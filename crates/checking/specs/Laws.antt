@@ -1,5 +1,6 @@
 -- The results of `check` for equal texts.
 use Rattle.std.specs.Prelude.{◌≡◌, ℕ, List, Some, Result, Ok, Err}
+use Rattle.schema_semantics.specs.Names.{Name}
 use Rattle.reports.specs.Lines.{report_text}
 use Rattle.reports.specs.declared.report.Report.{Report}
 use Rattle.reports.specs.SameFaults.{SameFault}
@@ -24,5 +25,5 @@ IsOfTexts r = Unit {0}
 -- All results for two texts say the same, except a device's fault and out of memory. So there aren't both a report
 -- and a fault, nor two reports or two faults that say different things.
 abbrev pub ChecksAreOne : Type 0
-ChecksAreOne = (schema file : List ℕ) (r q : Result Report Fault) → Checks (Some schema) (Some file) r
-    → Checks (Some schema) (Some file) q → IsOfTexts r → IsOfTexts q → ReportsSayTheSame r q
+ChecksAreOne = (others : List Name) (schema file : List ℕ) (r q : Result Report Fault)
+    → Checks others (Some schema) (Some file) r → Checks others (Some schema) (Some file) q → IsOfTexts r → IsOfTexts q → ReportsSayTheSame r q

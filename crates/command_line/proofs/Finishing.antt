@@ -1,20 +1,22 @@
--- What clap makes of the words behind `shrink` and `verify`, in the end.
-use Rattle.std.proofs.Common.{◌≡◌, ◌∙◌, ◌≤◌, ◌||◌, List, [], ◌∷◌, Option, Some, None, Bool, true, false, refl, sym, ap, ap₂, codes, subst, arith, option_map}
-use Rattle.std.specs.Prelude.{if◌then◌else◌, is_some, length, not, option_and_then, slice_get}
+-- What clap makes of the words behind a command, in the end.
+use Rattle.std.proofs.Common.{◌≡◌, ◌∙◌, ◌≤◌, ◌||◌, ◌++◌, List, [], ◌∷◌, Option, Some, None, Bool, true, false, refl, sym, ap, ap₂, codes, subst, arith, option_map, map}
+use Rattle.std.specs.Prelude.{if◌then◌else◌, is_some, length, not, option_and_then, slice_get, take, unwrap_or}
 use Rattle.std.specs.List.{fold}
 use Rattle.std.specs.Option.{option_map_or}
+use Rattle.std.specs.Str.{bytes_eq}
+use Rattle.std.proofs.lemmas.Slice.Eq.{bytes_eq-Decides}
 use Rattle.clap.specs.Facts.{explicit_source}
 use Rattle.clap.specs.Kinds.{Kinds, check_kinds, or_else}
-use Rattle.clap.specs.Walk.{Held, Row, Rule, Text, default_rows, finished, has_row, is_empty, more_values, nothing_held, one_of, reading_by, row_text, rows_after, settled, settled_rows, walk, walk_from, walked, with_default, with_values}
+use Rattle.clap.specs.Walk.{Held, Row, Rule, Text, default_rows, finished, first_of, has_row, is_empty, more_values, nothing_held, one_of, reading_by, row_text, rows_after, settled, settled_rows, walk, walk_from, walked, with_default, with_values}
 use Rattle.clap.specs.Simple.{entered, filled, help_rule, subcommand_of, with_index, built}
 use Rattle.clap.specs.Faults.{check_fault, default_fault, defaults_fault, fault_of, level_fault, settle_fault, walk_fault}
 use Rattle.clap.proofs.OnLiterals.{clap_on_literals}
 use Rattle.clap.specs.declared.builder.value_parser.Reading.TheVariants as reading
 use Rattle.clap.specs.declared.parser.matches.ValueSource.TheVariants.{DefaultValue}
-use Rattle.command_line.specs.Clap.{HasValues, Values, stepmin_app, values_in, values_of}
-use Rattle.command_line.specs.Commands.{Flags, Given, Gives, flags_of, nothing_given}
-use Rattle.command_line.proofs.Rows.{at_end, first_given, found, found_kept, found_new, given_row, has_found}
-use Rattle.command_line.proofs.Levels.{Holds, given, in_sets_built, level, merge_built, operand_rule, rules, stands_nothing, strict_built}
+use Rattle.command_line.specs.Clap.{HasGiven, HasValues, stepmin_app}
+use Rattle.command_line.specs.Commands.{Command, Flag, Given, Gives, Options, Valued, alias_option, check_command, command_name, flag_name, given_as, has_flag, merge_option, no_options, operand_names, plain_command, presets_command, shrink_command, value_name, value_of, verify_command}
+use Rattle.command_line.proofs.Rows.{at_end, found, found_kept, found_new, given_row, has_found}
+use Rattle.command_line.proofs.Levels.{Holds, TakesFlag, count, flag_built, flag_taken, level, rules, shrink_in_sets, shrink_strict, stands_nothing, text_at, verify_in_sets}
 use Rattle.command_line.proofs.Giving.{Fitting, ends, gives}
 use Rattle.command_line.proofs.Walking.{AreTexts, after, fault_after, fold_stopped, names, none_first, none_second, only_first, some_kind, stopped, top, waits, walk_stopped}
 
@@ -34,53 +36,55 @@ no_default_fault rows a none = go _ (has_row a.id rows) (is_empty a.defaults) (a
     go k true e is = refl
     go k false e is = ap (λ e. if e then [] else k) is
 
-passed : (rows : List Row) (a : Rule) (more : List Rule) → a.defaults ≡ []
-    → fold with_default rows (a ∷ more) ≡ fold with_default rows more
-passed rows a more none = ap (λ r. fold with_default r more) (no_default rows a none)
+-- none of these has a default
+abbrev NoDefaults : List Rule → Type 0
+NoDefaults [] = Unit {0}
+NoDefaults (a ∷ more) = (a.defaults ≡ []) × NoDefaults more
 
-passed_fault : (rows : List Row) (a : Rule) (more : List Rule) → a.defaults ≡ []
-    → defaults_fault rows (a ∷ more) ≡ defaults_fault rows more
+passed : (rows : List Row) (first last : List Rule) → NoDefaults first
+    → fold with_default rows (first ++ last) ≡ fold with_default rows last
+passed rows [] last none = refl
+passed rows (a ∷ more) last none =
+    ap (λ r. fold with_default r (more ++ last)) (no_default rows a none.0) ∙ passed rows more last none.1
+
+passed_fault : (rows : List Row) (first last : List Rule) → NoDefaults first
+    → defaults_fault rows (first ++ last) ≡ defaults_fault rows last
 unfolding defaults_fault
-passed_fault rows a more none =
-    ap₂ or_else (no_default_fault rows a none) (ap (λ r. defaults_fault r more) (no_default rows a none))
+passed_fault rows [] last none = refl
+passed_fault rows (a ∷ more) last none =
+    ap₂ or_else (no_default_fault rows a none.0) (ap (λ r. defaults_fault r (more ++ last)) (no_default rows a none.0))
+    ∙ passed_fault rows more last none.1
 
-abbrev help_built : Rule
-help_built = with_index 5 (filled help_rule)
+-- the names of the flags of a command, which stand behind its other arguments
+abbrev flag_names : Command → List Text
+flag_names shrink_command = codes "in-sets" ∷ codes "strict" ∷ []
+flag_names verify_command = codes "in-sets" ∷ []
+flag_names b = []
 
--- the rules behind each operand, by what ends them
-abbrev behind_operands : List Rule → List Rule
-behind_operands last = merge_built ∷ last
+abbrev ending : List Text → List Rule
+ending flags = map flag_built flags ++ with_index 1 (filled help_rule) ∷ []
 
-abbrev behind_output : List Rule → List Rule
-behind_output last = operand_rule (codes "CERT") 4 ∷ behind_operands last
+-- the rules before the flags
+abbrev before_flags : Command → List Rule
+before_flags plain_command = take 1 (rules plain_command)
+before_flags check_command = take 3 (rules check_command)
+before_flags shrink_command = take 6 (rules shrink_command)
+before_flags verify_command = take 6 (rules verify_command)
+before_flags presets_command = []
 
-abbrev behind_file : List Rule → List Rule
-behind_file last = operand_rule (codes "OUT") 3 ∷ behind_output last
+no_defaults_before : (b : Command) → NoDefaults (before_flags b)
+no_defaults_before plain_command = (refl, tt)
+no_defaults_before check_command = (refl, (refl, (refl, tt)))
+no_defaults_before shrink_command = (refl, (refl, (refl, (refl, (refl, (refl, tt))))))
+no_defaults_before verify_command = (refl, (refl, (refl, (refl, (refl, (refl, tt))))))
+no_defaults_before presets_command = tt
 
-abbrev behind_schema : List Rule → List Rule
-behind_schema last = operand_rule (codes "FILE") 2 ∷ behind_file last
-
-six_passed : (rows : List Row) (last : List Rule)
-    → fold with_default rows (operand_rule (codes "SCHEMA") 1 ∷ behind_schema last) ≡ fold with_default rows last
-six_passed rows last = passed rows (operand_rule (codes "SCHEMA") 1) (behind_schema last) refl
-    ∙ passed rows (operand_rule (codes "FILE") 2) (behind_file last) refl
-    ∙ passed rows (operand_rule (codes "OUT") 3) (behind_output last) refl
-    ∙ passed rows (operand_rule (codes "CERT") 4) (behind_operands last) refl ∙ passed rows merge_built last refl
-
-six_fit : (rows : List Row) (last : List Rule)
-    → defaults_fault rows (operand_rule (codes "SCHEMA") 1 ∷ behind_schema last) ≡ defaults_fault rows last
-six_fit rows last = passed_fault rows (operand_rule (codes "SCHEMA") 1) (behind_schema last) refl
-    ∙ passed_fault rows (operand_rule (codes "FILE") 2) (behind_file last) refl
-    ∙ passed_fault rows (operand_rule (codes "OUT") 3) (behind_output last) refl
-    ∙ passed_fault rows (operand_rule (codes "CERT") 4) (behind_operands last) refl
-    ∙ passed_fault rows merge_built last refl
-
-ended_with : (b : Bool) (rows : List Row) → fold with_default rows (rules b)
-    ≡ (if b then with_default (with_default rows in_sets_built) strict_built else with_default rows in_sets_built)
-ended_with true rows = six_passed rows (in_sets_built ∷ strict_built ∷ help_built ∷ [])
-    ∙ no_default (with_default (with_default rows in_sets_built) strict_built) help_built refl
-ended_with false rows = six_passed rows (in_sets_built ∷ help_built ∷ [])
-    ∙ no_default (with_default rows in_sets_built) help_built refl
+rules_are : (b : Command) → rules b ≡ before_flags b ++ ending (flag_names b)
+rules_are plain_command = refl
+rules_are check_command = refl
+rules_are shrink_command = refl
+rules_are verify_command = refl
+rules_are presets_command = refl
 
 abbrev no_kinds : Kinds
 no_kinds = []
@@ -89,44 +93,20 @@ either_way : (b : Bool) → (if b || false then no_kinds else no_kinds) ≡ no_k
 either_way true = refl
 either_way false = refl
 
-in_sets_default_fits : (rows : List Row) → default_fault rows in_sets_built ≡ []
-in_sets_default_fits rows = either_way (has_row (codes "in-sets") rows)
+flag_default_fits : (rows : List Row) (name : Text) → default_fault rows (flag_built name) ≡ []
+flag_default_fits rows name = either_way (has_row name rows)
 
-strict_default_fits : (rows : List Row) → default_fault rows strict_built ≡ []
-strict_default_fits rows = either_way (has_row (codes "strict") rows)
-
-defaults_fit : (b : Bool) (rows : List Row) → defaults_fault rows (rules b) ≡ []
+ending_fits : (rows : List Row) (flags : List Text) → defaults_fault rows (ending flags) ≡ []
 unfolding defaults_fault
-defaults_fit true rows =
-    let marked = with_default rows in_sets_built in
-    six_fit rows (in_sets_built ∷ strict_built ∷ help_built ∷ [])
-    ∙ ap₂ or_else (in_sets_default_fits rows) (ap₂ or_else (strict_default_fits marked)
-    (passed_fault (with_default marked strict_built) help_built [] refl))
-defaults_fit false rows = six_fit rows (in_sets_built ∷ help_built ∷ [])
-    ∙ ap₂ or_else (in_sets_default_fits rows) (passed_fault (with_default rows in_sets_built) help_built [] refl)
+ending_fits rows [] = ap (λ k. or_else k []) (no_default_fault rows (with_index 1 (filled help_rule)) refl)
+ending_fits rows (name ∷ more) =
+    ap₂ or_else (flag_default_fits rows name) (ending_fits (with_default rows (flag_built name)) more)
+
+defaults_fit : (b : Command) (rows : List Row) → defaults_fault rows (rules b) ≡ []
+defaults_fit b rows = ap (defaults_fault rows) (rules_are b)
+    ∙ passed_fault rows (before_flags b) (ending (flag_names b)) (no_defaults_before b) ∙ ending_fits rows (flag_names b)
 
 -- ---- the rows in the end
-
-pub record Final (b : Bool) (all : Given) (rows : List Row) : Type 0 where
-  pub schema : found (codes "SCHEMA") rows ≡ option_map (given_row (codes "SCHEMA")) (slice_get all.operands 0)
-  pub file : found (codes "FILE") rows ≡ option_map (given_row (codes "FILE")) (slice_get all.operands 1)
-  pub output : found (codes "OUT") rows ≡ option_map (given_row (codes "OUT")) (slice_get all.operands 2)
-  pub certificate : found (codes "CERT") rows ≡ option_map (given_row (codes "CERT")) (slice_get all.operands 3)
-  pub merge : found (codes "merge") rows ≡ option_map (given_row (codes "merge")) all.merge
-  pub in_sets : one_of (codes "in-sets") rows ≡ Some (if all.flags.in_sets then codes "true" else codes "false")
-  pub flag : one_of (codes "strict") rows
-      ≡ (if b then Some (if all.flags.strict then codes "true" else codes "false") else None)
-
--- the rows once `--in-sets` has its default
-record Marked (all : Given) (rows : List Row) : Type 0 where
-  pub schema : found (codes "SCHEMA") rows ≡ option_map (given_row (codes "SCHEMA")) (slice_get all.operands 0)
-  pub file : found (codes "FILE") rows ≡ option_map (given_row (codes "FILE")) (slice_get all.operands 1)
-  pub output : found (codes "OUT") rows ≡ option_map (given_row (codes "OUT")) (slice_get all.operands 2)
-  pub certificate : found (codes "CERT") rows ≡ option_map (given_row (codes "CERT")) (slice_get all.operands 3)
-  pub merge : found (codes "merge") rows ≡ option_map (given_row (codes "merge")) all.merge
-  pub in_sets : one_of (codes "in-sets") rows ≡ Some (if all.flags.in_sets then codes "true" else codes "false")
-  pub strict : found (codes "strict") rows ≡ (if all.flags.strict then Some (given_row (codes "strict") (codes "true"))
-      else None)
 
 abbrev default_row : Text → Row
 default_row id = record {
@@ -137,180 +117,278 @@ default_row id = record {
   reading = reading.AsWritten;
 }
 
-in_sets_rows : (rows : List Row) (o : Option Row) → found (codes "in-sets") rows ≡ o → with_default rows in_sets_built
-    ≡ (if is_some o then rows else with_values (codes "in-sets") reading.AsWritten DefaultValue (codes "false" ∷ []) rows)
-in_sets_rows rows o is = ap (λ (b : Bool). if b then rows
-    else with_values (codes "in-sets") reading.AsWritten DefaultValue (codes "false" ∷ []) rows)
-    (has_found (codes "in-sets") rows ∙ ap is_some is)
+-- what is found once a flag has its default
+abbrev default_at : Text → (Text → Option Row) → Text → Option Row
+default_at name before id = if bytes_eq name id then Some (unwrap_or (before id) (default_row id)) else before id
 
-strict_rows : (rows : List Row) (o : Option Row) → found (codes "strict") rows ≡ o → with_default rows strict_built
-    ≡ (if is_some o then rows else with_values (codes "strict") reading.AsWritten DefaultValue (codes "false" ∷ []) rows)
-strict_rows rows o is = ap (λ (b : Bool). if b then rows
-    else with_values (codes "strict") reading.AsWritten DefaultValue (codes "false" ∷ []) rows)
-    (has_found (codes "strict") rows ∙ ap is_some is)
+abbrev defaulted : List Text → (Text → Option Row) → Text → Option Row
+defaulted [] before = before
+defaulted (name ∷ more) before = defaulted more (default_at name before)
 
-marked : (os : List Text) (m : Option Text) (i t : Bool) (rows : List Row) → Holds (given os m (flags_of i t)) rows
-    → Marked (given os m (flags_of i t)) (with_default rows in_sets_built)
-marked os m true t rows h = subst (Marked (given os m (flags_of true t))) (sym (in_sets_rows rows _ h.in_sets)) (record {
-  schema = h.schema;
-  file = h.file;
-  output = h.output;
-  certificate = h.certificate;
-  merge = h.merge;
-  in_sets = ap (option_and_then row_text) h.in_sets;
-  strict = h.strict;
-})
-marked os m false t rows h =
-    let row = default_row (codes "in-sets") in
-    subst (Marked (given os m (flags_of false t))) (sym (in_sets_rows rows None h.in_sets
-    ∙ at_end (codes "in-sets") (more_values DefaultValue (codes "false" ∷ [])) (row ∷ []) rows h.in_sets)) (record {
-      schema = found_kept _ rows row refl ∙ h.schema;
-      file = found_kept _ rows row refl ∙ h.file;
-      output = found_kept _ rows row refl ∙ h.output;
-      certificate = found_kept _ rows row refl ∙ h.certificate;
-      merge = found_kept _ rows row refl ∙ h.merge;
-      in_sets = ap (option_and_then row_text) (found_new (codes "in-sets") rows row refl h.in_sets);
-      strict = found_kept _ rows row refl ∙ h.strict;
-    })
+-- this is found in the rows
+abbrev Finds : (Text → Option Row) → List Row → Type 0
+Finds texts rows = (id : Text) → found id rows ≡ texts id
 
-final_strict : (os : List Text) (m : Option Text) (i t : Bool) (rows : List Row) → Marked (given os m (flags_of i t)) rows
-    → Final true (given os m (flags_of i t)) (with_default rows strict_built)
-final_strict os m i true rows h = subst (Final true (given os m (flags_of i true))) (sym (strict_rows rows _ h.strict)) (record {
-  schema = h.schema;
-  file = h.file;
-  output = h.output;
-  certificate = h.certificate;
-  merge = h.merge;
-  in_sets = h.in_sets;
-  flag = ap (option_and_then row_text) h.strict;
-})
-final_strict os m i false rows h =
-    let row = default_row (codes "strict") in
-    subst (Final true (given os m (flags_of i false))) (sym (strict_rows rows None h.strict
-    ∙ at_end (codes "strict") (more_values DefaultValue (codes "false" ∷ [])) (row ∷ []) rows h.strict)) (record {
-      schema = found_kept _ rows row refl ∙ h.schema;
-      file = found_kept _ rows row refl ∙ h.file;
-      output = found_kept _ rows row refl ∙ h.output;
-      certificate = found_kept _ rows row refl ∙ h.certificate;
-      merge = found_kept _ rows row refl ∙ h.merge;
-      in_sets = ap (option_and_then row_text) (found_kept (codes "in-sets") rows row refl) ∙ h.in_sets;
-      flag = ap (option_and_then row_text) (found_new (codes "strict") rows row refl h.strict);
-    })
+flag_rows : (name : Text) (rows : List Row) (o : Option Row) → found name rows ≡ o → with_default rows (flag_built name)
+    ≡ (if is_some o then rows else with_values name reading.AsWritten DefaultValue (codes "false" ∷ []) rows)
+flag_rows name rows o is = ap (λ (b : Bool). if b then rows
+    else with_values name reading.AsWritten DefaultValue (codes "false" ∷ []) rows)
+    (has_found name rows ∙ ap is_some is)
 
-final_plain : (os : List Text) (m : Option Text) (i : Bool) (rows : List Row) → Marked (given os m (flags_of i false)) rows
-    → Final false (given os m (flags_of i false)) rows
-final_plain os m i rows h = record {
-  schema = h.schema;
-  file = h.file;
-  output = h.output;
-  certificate = h.certificate;
-  merge = h.merge;
-  in_sets = h.in_sets;
-  flag = ap (option_and_then row_text) h.strict;
-}
+finds_default : (name : Text) (before : Text → Option Row) (rows : List Row) → Finds before rows
+    → Finds (default_at name before) (with_default rows (flag_built name))
+finds_default name before rows finds id = go (before name) (finds name) (bytes_eq name id) refl
+  where
+    go : (o : Option Row) → found name rows ≡ o → (b : Bool) → bytes_eq name id ≡ b
+        → found id (with_default rows (flag_built name))
+        ≡ (if b then Some (unwrap_or (before id) (default_row id)) else before id)
+    go (Some r) has true e =
+        let same = (bytes_eq-Decides name id).0 e in
+        let here : found id rows ≡ Some r = subst (λ x. found x rows ≡ Some r) same has in
+        ap (found id) (flag_rows name rows (Some r) has) ∙ here
+        ∙ ap (λ o. Some (unwrap_or o (default_row id))) (sym here ∙ finds id)
+    go (Some r) has false e = ap (found id) (flag_rows name rows (Some r) has) ∙ finds id
+    go None has true e =
+        let same = (bytes_eq-Decides name id).0 e in
+        let here : found id rows ≡ None = subst (λ x. found x rows ≡ None) same has in
+        ap (found id) (flag_rows name rows None has
+        ∙ at_end name (more_values DefaultValue (codes "false" ∷ [])) (default_row name ∷ []) rows has)
+        ∙ found_new id rows (default_row name) e here ∙ ap (λ x. Some (default_row x)) same
+        ∙ ap (λ o. Some (unwrap_or o (default_row id))) (sym here ∙ finds id)
+    go None has false e =
+        ap (found id) (flag_rows name rows None has
+        ∙ at_end name (more_values DefaultValue (codes "false" ∷ [])) (default_row name ∷ []) rows has)
+        ∙ found_kept id rows (default_row name) e ∙ finds id
 
-final_rows : (b : Bool) (all : Given) (rows : List Row) → Fitting b all → Holds all rows
+finds_ending : (flags : List Text) (before : Text → Option Row) (rows : List Row) → Finds before rows
+    → Finds (defaulted flags before) (fold with_default rows (ending flags))
+finds_ending [] before rows finds id =
+    ap (found id) (no_default rows (with_index 1 (filled help_rule)) refl) ∙ finds id
+finds_ending (name ∷ more) before rows finds id = finds_ending more (default_at name before)
+    (with_default rows (flag_built name)) (finds_default name before rows finds) id
+
+-- the rows of a command at the end
+abbrev row_at : Command → Given → Text → Option Row
+row_at b all = defaulted (flag_names b) (λ id. option_map (given_row id) (text_at b all id))
+
+abbrev Final : Command → Given → List Row → Type 0
+Final b all rows = Finds (row_at b all) rows
+
+final_rows : (b : Command) (all : Given) (rows : List Row) → Holds b all rows
     → Final b all (fold with_default rows (rules b))
-final_rows true all rows fits h =
-    let flags = all.flags in
-    subst (Final true all) (sym (ended_with true rows))
-    (final_strict all.operands all.merge flags.in_sets flags.strict (with_default rows in_sets_built)
-    (marked all.operands all.merge flags.in_sets flags.strict rows h))
-final_rows false all rows fits h =
-    let flags = all.flags in
-    let after = with_default rows in_sets_built in
-    subst (Final false all) (sym (ended_with false rows))
-    (subst (λ s. Final false (given all.operands all.merge (flags_of flags.in_sets s)) after) (sym (fits.1 refl))
-    (final_plain all.operands all.merge flags.in_sets after
-    (subst (λ s. Marked (given all.operands all.merge (flags_of flags.in_sets s)) after) (fits.1 refl)
-    (marked all.operands all.merge flags.in_sets flags.strict rows h))))
+final_rows b all rows holds id =
+    ap (found id) (ap (fold with_default rows) (rules_are b)
+    ∙ passed rows (before_flags b) (ending (flag_names b)) (no_defaults_before b))
+    ∙ finds_ending (flag_names b) (λ id. option_map (given_row id) (text_at b all id)) rows holds id
 
-pub values : (b : Bool) (all : Given) (rows : List Row) → Final b all rows → values_in rows ≡ values_of b all
-values b all rows f = λ i. (
-  first_given (codes "SCHEMA") rows (slice_get all.operands 0) f.schema i,
-  first_given (codes "FILE") rows (slice_get all.operands 1) f.file i,
-  first_given (codes "OUT") rows (slice_get all.operands 2) f.output i,
-  first_given (codes "CERT") rows (slice_get all.operands 3) f.certificate i,
-  first_given (codes "merge") rows all.merge f.merge i,
-  f.in_sets i,
-  f.flag i,
-)
+-- ---- the values
+
+read_given : (id : Text) (o : Option Text)
+    → option_and_then (λ (r : Row). slice_get r.values 0) (option_map (given_row id) o) ≡ o
+read_given id None = refl
+read_given id (Some text) = refl
+
+first_at : (b : Command) (all : Given) (rows : List Row) (id : Text) → Final b all rows
+    → first_of id rows ≡ option_and_then (λ (r : Row). slice_get r.values 0) (row_at b all id)
+first_at b all rows id final = ap (option_and_then (λ (r : Row). slice_get r.values 0)) (final id)
+
+value_is : (b : Command) (o : Valued) (all : Given) (rows : List Row) → Final b all rows
+    → first_of (value_name o) rows ≡ value_of o all.options
+value_is plain_command merge_option all rows f =
+    first_at plain_command all rows (codes "merge") f ∙ read_given (codes "merge") all.options.merge
+value_is check_command merge_option all rows f =
+    first_at check_command all rows (codes "merge") f ∙ read_given (codes "merge") all.options.merge
+value_is shrink_command merge_option all rows f =
+    first_at shrink_command all rows (codes "merge") f ∙ read_given (codes "merge") all.options.merge
+value_is verify_command merge_option all rows f =
+    first_at verify_command all rows (codes "merge") f ∙ read_given (codes "merge") all.options.merge
+value_is presets_command merge_option all rows f =
+    first_at presets_command all rows (codes "merge") f ∙ read_given (codes "merge") all.options.merge
+value_is plain_command alias_option all rows f =
+    first_at plain_command all rows (codes "schema-alias") f ∙ read_given (codes "schema-alias") all.options.schema_alias
+value_is check_command alias_option all rows f =
+    first_at check_command all rows (codes "schema-alias") f ∙ read_given (codes "schema-alias") all.options.schema_alias
+value_is shrink_command alias_option all rows f =
+    first_at shrink_command all rows (codes "schema-alias") f
+    ∙ read_given (codes "schema-alias") all.options.schema_alias
+value_is verify_command alias_option all rows f =
+    first_at verify_command all rows (codes "schema-alias") f
+    ∙ read_given (codes "schema-alias") all.options.schema_alias
+value_is presets_command alias_option all rows f =
+    first_at presets_command all rows (codes "schema-alias") f
+    ∙ read_given (codes "schema-alias") all.options.schema_alias
+
+flag_read : (id : Text) (present : Bool)
+    → option_and_then row_text (Some (unwrap_or (option_map (given_row id)
+    (if present then Some (codes "true") else None)) (default_row id)))
+    ≡ Some (if present then codes "true" else codes "false")
+flag_read id true = refl
+flag_read id false = refl
+
+flag_is_read : {b : Command} {f : Flag} → TakesFlag b f → (all : Given) (rows : List Row) → Final b all rows
+    → one_of (flag_name f) rows ≡ Some (if has_flag f all.options then codes "true" else codes "false")
+flag_is_read shrink_in_sets all rows f =
+    ap (option_and_then row_text) (f (codes "in-sets")) ∙ flag_read (codes "in-sets") all.options.in_sets
+flag_is_read shrink_strict all rows f =
+    ap (option_and_then row_text) (f (codes "strict")) ∙ flag_read (codes "strict") all.options.strict
+flag_is_read verify_in_sets all rows f =
+    ap (option_and_then row_text) (f (codes "in-sets")) ∙ flag_read (codes "in-sets") all.options.in_sets
+
+operand_is : (b : Command) (name : Text) (all : Given) (rows : List Row) (o : Option Text) → Final b all rows
+    → row_at b all name ≡ option_map (given_row name) o → first_of name rows ≡ o
+operand_is b name all rows o f is = first_at b all rows name f
+    ∙ ap (option_and_then (λ (r : Row). slice_get r.values 0)) is ∙ read_given name o
+
+operands_are : (b : Command) (os : List Text) (all : Options) (rows : List Row) → Final b (given_as os all) rows
+    → length os ≡ count b → map (λ name. first_of name rows) (operand_names b) ≡ map (λ text. Some text) os
+operands_are plain_command (x ∷ []) all rows f are = λ i.
+    operand_is plain_command (codes "FILE") (given_as (x ∷ []) all) rows (Some x) f refl i ∷ []
+operands_are check_command (x ∷ y ∷ []) all rows f are = λ i.
+    operand_is check_command (codes "SCHEMA") (given_as (x ∷ y ∷ []) all) rows (Some x) f refl i
+    ∷ operand_is check_command (codes "FILE") (given_as (x ∷ y ∷ []) all) rows (Some y) f refl i ∷ []
+operands_are shrink_command (x ∷ y ∷ z ∷ w ∷ []) all rows f are = λ i.
+    operand_is shrink_command (codes "SCHEMA") (given_as (x ∷ y ∷ z ∷ w ∷ []) all) rows (Some x) f refl i
+    ∷ operand_is shrink_command (codes "FILE") (given_as (x ∷ y ∷ z ∷ w ∷ []) all) rows (Some y) f refl i
+    ∷ operand_is shrink_command (codes "OUT") (given_as (x ∷ y ∷ z ∷ w ∷ []) all) rows (Some z) f refl i
+    ∷ operand_is shrink_command (codes "CERT") (given_as (x ∷ y ∷ z ∷ w ∷ []) all) rows (Some w) f refl i ∷ []
+operands_are verify_command (x ∷ y ∷ z ∷ w ∷ []) all rows f are = λ i.
+    operand_is verify_command (codes "SCHEMA") (given_as (x ∷ y ∷ z ∷ w ∷ []) all) rows (Some x) f refl i
+    ∷ operand_is verify_command (codes "FILE") (given_as (x ∷ y ∷ z ∷ w ∷ []) all) rows (Some y) f refl i
+    ∷ operand_is verify_command (codes "OUT") (given_as (x ∷ y ∷ z ∷ w ∷ []) all) rows (Some z) f refl i
+    ∷ operand_is verify_command (codes "CERT") (given_as (x ∷ y ∷ z ∷ w ∷ []) all) rows (Some w) f refl i ∷ []
+operands_are presets_command [] all rows f are = refl
+operands_are plain_command [] all rows f are = absurd (omega (arith, are))
+operands_are plain_command (x ∷ y ∷ os) all rows f are = absurd (omega (arith, are))
+operands_are check_command [] all rows f are = absurd (omega (arith, are))
+operands_are check_command (x ∷ []) all rows f are = absurd (omega (arith, are))
+operands_are check_command (x ∷ y ∷ z ∷ os) all rows f are = absurd (omega (arith, are))
+operands_are shrink_command [] all rows f are = absurd (omega (arith, are))
+operands_are shrink_command (x ∷ []) all rows f are = absurd (omega (arith, are))
+operands_are shrink_command (x ∷ y ∷ []) all rows f are = absurd (omega (arith, are))
+operands_are shrink_command (x ∷ y ∷ z ∷ []) all rows f are = absurd (omega (arith, are))
+operands_are shrink_command (x ∷ y ∷ z ∷ w ∷ v ∷ os) all rows f are = absurd (omega (arith, are))
+operands_are verify_command [] all rows f are = absurd (omega (arith, are))
+operands_are verify_command (x ∷ []) all rows f are = absurd (omega (arith, are))
+operands_are verify_command (x ∷ y ∷ []) all rows f are = absurd (omega (arith, are))
+operands_are verify_command (x ∷ y ∷ z ∷ []) all rows f are = absurd (omega (arith, are))
+operands_are verify_command (x ∷ y ∷ z ∷ w ∷ v ∷ os) all rows f are = absurd (omega (arith, are))
+operands_are presets_command (x ∷ os) all rows f are = absurd (omega (arith, are))
+
+has_given : (b : Command) (all : Given) (rows : List Row) → Final b all rows → length all.operands ≡ count b
+    → HasGiven rows b all
+has_given b all rows f are = record {
+  operands = operands_are b all.operands all.options rows f are;
+  values = λ o. value_is b o all rows f;
+  flags = λ x e. flag_is_read (flag_taken b x e) all rows f;
+}
 
 -- ---- what is required
 
 abbrev lacks : Option Row → Bool
 lacks o = not (option_map_or (λ (r : Row). explicit_source r.source) o false)
 
-abbrev missing : Option Row → Option Row → Option Row → Option Row → Kinds
-missing schema file output certificate = check_kinds false false
-    (lacks schema || (lacks file || (lacks output || (lacks certificate || false))))
+abbrev lacks_any : List Text → (Text → Option Row) → Bool
+lacks_any [] rows = false
+lacks_any (name ∷ more) rows = lacks (rows name) || lacks_any more rows
 
-check_is : (b : Bool) (rows : List Row) → check_fault (level b) rows false ≡ missing (found (codes "SCHEMA") rows)
-    (found (codes "FILE") rows) (found (codes "OUT") rows) (found (codes "CERT") rows)
-check_is true rows = refl
-check_is false rows = refl
+abbrev missing : Command → (Text → Option Row) → Kinds
+missing b rows = check_kinds false false (lacks_any (operand_names b) rows)
 
-checks : (b : Bool) (os : List Text) (m : Option Text) (s : Flags) (rows : List Row) → Final b (given os m s) rows
-    → check_fault (level b) rows false ≡ missing (option_map (given_row (codes "SCHEMA")) (slice_get os 0))
-    (option_map (given_row (codes "FILE")) (slice_get os 1)) (option_map (given_row (codes "OUT")) (slice_get os 2))
-    (option_map (given_row (codes "CERT")) (slice_get os 3))
-checks b os m s rows f = check_is b rows ∙ (λ i. missing (f.schema i) (f.file i) (f.output i) (f.certificate i))
+check_is : (b : Command) (rows : List Row) → check_fault (level b) rows false ≡ missing b (λ id. found id rows)
+check_is plain_command rows = refl
+check_is check_command rows = refl
+check_is shrink_command rows = refl
+check_is verify_command rows = refl
+check_is presets_command rows = refl
 
-four_given : (b : Bool) (os : List Text) (m : Option Text) (s : Flags) (rows : List Row) → Final b (given os m s) rows
-    → length os ≤ 4 → check_fault (level b) rows false ≡ [] → length os ≡ 4
-four_given b [] m s rows f few e = absurd (some_kind _ _ (sym (checks b [] m s rows f) ∙ e))
-four_given b (x ∷ []) m s rows f few e = absurd (some_kind _ _ (sym (checks b (x ∷ []) m s rows f) ∙ e))
-four_given b (x ∷ y ∷ []) m s rows f few e = absurd (some_kind _ _ (sym (checks b (x ∷ y ∷ []) m s rows f) ∙ e))
-four_given b (x ∷ y ∷ z ∷ []) m s rows f few e =
-    absurd (some_kind _ _ (sym (checks b (x ∷ y ∷ z ∷ []) m s rows f) ∙ e))
-four_given b (x ∷ y ∷ z ∷ w ∷ []) m s rows f few e = refl
-four_given b (x ∷ y ∷ z ∷ w ∷ v ∷ rest) m s rows f few e = absurd (omega (arith, few))
+checks : (b : Command) (all : Given) (rows : List Row) → Final b all rows
+    → check_fault (level b) rows false ≡ missing b (row_at b all)
+checks b all rows f = check_is b rows ∙ (λ i. missing b (λ id. f id i))
 
-all_given : (b : Bool) (os : List Text) (m : Option Text) (s : Flags) (rows : List Row) → Final b (given os m s) rows
-    → length os ≡ 4 → check_fault (level b) rows false ≡ []
-all_given b [] m s rows f is = absurd (omega (arith, is))
-all_given b (x ∷ []) m s rows f is = absurd (omega (arith, is))
-all_given b (x ∷ y ∷ []) m s rows f is = absurd (omega (arith, is))
-all_given b (x ∷ y ∷ z ∷ []) m s rows f is = absurd (omega (arith, is))
-all_given b (x ∷ y ∷ z ∷ w ∷ rest) m s rows f is = checks b (x ∷ y ∷ z ∷ w ∷ rest) m s rows f
+-- an operand that wasn't given is missed
+all_needed : (b : Command) (os : List Text) (all : Options) → length os ≤ count b
+    → missing b (row_at b (given_as os all)) ≡ [] → length os ≡ count b
+all_needed plain_command [] all few e = absurd (some_kind _ _ e)
+all_needed plain_command (x ∷ []) all few e = refl
+all_needed plain_command (x ∷ y ∷ os) all few e = absurd (omega (arith, few))
+all_needed check_command [] all few e = absurd (some_kind _ _ e)
+all_needed check_command (x ∷ []) all few e = absurd (some_kind _ _ e)
+all_needed check_command (x ∷ y ∷ []) all few e = refl
+all_needed check_command (x ∷ y ∷ z ∷ os) all few e = absurd (omega (arith, few))
+all_needed shrink_command [] all few e = absurd (some_kind _ _ e)
+all_needed shrink_command (x ∷ []) all few e = absurd (some_kind _ _ e)
+all_needed shrink_command (x ∷ y ∷ []) all few e = absurd (some_kind _ _ e)
+all_needed shrink_command (x ∷ y ∷ z ∷ []) all few e = absurd (some_kind _ _ e)
+all_needed shrink_command (x ∷ y ∷ z ∷ w ∷ []) all few e = refl
+all_needed shrink_command (x ∷ y ∷ z ∷ w ∷ v ∷ os) all few e = absurd (omega (arith, few))
+all_needed verify_command [] all few e = absurd (some_kind _ _ e)
+all_needed verify_command (x ∷ []) all few e = absurd (some_kind _ _ e)
+all_needed verify_command (x ∷ y ∷ []) all few e = absurd (some_kind _ _ e)
+all_needed verify_command (x ∷ y ∷ z ∷ []) all few e = absurd (some_kind _ _ e)
+all_needed verify_command (x ∷ y ∷ z ∷ w ∷ []) all few e = refl
+all_needed verify_command (x ∷ y ∷ z ∷ w ∷ v ∷ os) all few e = absurd (omega (arith, few))
+all_needed presets_command [] all few e = refl
+all_needed presets_command (x ∷ os) all few e = absurd (omega (arith, few))
+
+none_missed : (b : Command) (os : List Text) (all : Options) → length os ≡ count b
+    → missing b (row_at b (given_as os all)) ≡ []
+none_missed plain_command [] all are = absurd (omega (arith, are))
+none_missed plain_command (x ∷ os) all are = refl
+none_missed check_command [] all are = absurd (omega (arith, are))
+none_missed check_command (x ∷ []) all are = absurd (omega (arith, are))
+none_missed check_command (x ∷ y ∷ os) all are = refl
+none_missed shrink_command [] all are = absurd (omega (arith, are))
+none_missed shrink_command (x ∷ []) all are = absurd (omega (arith, are))
+none_missed shrink_command (x ∷ y ∷ []) all are = absurd (omega (arith, are))
+none_missed shrink_command (x ∷ y ∷ z ∷ []) all are = absurd (omega (arith, are))
+none_missed shrink_command (x ∷ y ∷ z ∷ w ∷ os) all are = refl
+none_missed verify_command [] all are = absurd (omega (arith, are))
+none_missed verify_command (x ∷ []) all are = absurd (omega (arith, are))
+none_missed verify_command (x ∷ y ∷ []) all are = absurd (omega (arith, are))
+none_missed verify_command (x ∷ y ∷ z ∷ []) all are = absurd (omega (arith, are))
+none_missed verify_command (x ∷ y ∷ z ∷ w ∷ os) all are = refl
+none_missed presets_command os all are = refl
 
 -- ---- the level
 
-abbrev pub merging_below : Bool → List Text → Kinds
-merging_below b words = level_fault (level b) [] nothing_held words false []
+abbrev pub below : Command → List Text → Kinds
+below b words = level_fault (level b) [] nothing_held words false []
 
 -- what is left to fail at the end of the words
-abbrev end_fault : Bool → Held → Kinds
+abbrev end_fault : Command → Held → Kinds
 end_fault b h = or_else (settle_fault (rules b) false h) (or_else (defaults_fault (settled (rules b) h).rows (rules b))
     (check_fault (level b) (finished (rules b) h) false))
 
-abbrev end_of : Bool → List Text → Held
+abbrev end_of : Command → List Text → Held
 end_of b words = (fold (walked (rules b) []) (walk_from nothing_held) words).held
 
-below_is : (b : Bool) (words : List Text) → merging_below b words
+below_is : (b : Command) (words : List Text) → below b words
     ≡ or_else (walk_fault (level b) [] (walk_from nothing_held) words) (end_fault b (end_of b words))
-below_is true words = refl
-below_is false words = refl
+below_is plain_command words = refl
+below_is check_command words = refl
+below_is shrink_command words = refl
+below_is verify_command words = refl
+below_is presets_command words = refl
 
--- where four operands are given, clap finds no fault, and finds these values
-pub given_fits : (b : Bool) (words : List Text) (all : Given) → Gives nothing_given words all → Fitting b all
-    → length all.operands ≡ 4
-    → (merging_below b words ≡ []) × (values_in (rows_after (rules b) [] words) ≡ values_of b all)
+-- where what a command needs is given, clap finds no fault, and finds these values
+pub given_fits : (b : Command) (words : List Text) (all : Given) → Gives (given_as [] no_options) words all
+    → Fitting b all → length all.operands ≡ count b
+    → (below b words ≡ []) × HasGiven (rows_after (rules b) [] words) b all
 given_fits b words all by fits are =
     let e = ends b by fits [] None (stands_nothing b) in
     let rows = settled_rows (rules b) e.pending e.rows in
-    let f = final_rows b all rows fits e.stands.holds in
+    let f = final_rows b all rows e.stands.holds in
     let ending : end_fault b (waits e.rows e.pending) ≡ [] =
     ap₂ or_else e.stands.fits (ap₂ or_else (defaults_fit b rows)
-    (all_given b all.operands all.merge all.flags (fold with_default rows (rules b)) f are)) in (
+    (checks b all (fold with_default rows (rules b)) f ∙ none_missed b all.operands all.options are)) in (
       below_is b words ∙ ap₂ or_else e.fits (ap (end_fault b) e.held ∙ ending),
-      ap (λ (h : Held). values_in (finished (rules b) h)) e.held
-          ∙ values b all (fold with_default rows (rules b)) f,
+      subst (λ (h : Held). HasGiven (finished (rules b) h) b all) (sym e.held)
+          (has_given b all (fold with_default rows (rules b)) f are),
     )
 
--- where clap finds no fault, four operands are given
-pub given_by : (b : Bool) (words : List Text) → AreTexts words → merging_below b words ≡ []
-    → (all : Given) × Gives nothing_given words all × Fitting b all × (length all.operands ≡ 4)
+-- where clap finds no fault, what the command needs is given
+pub given_by : (b : Command) (words : List Text) → AreTexts words → below b words ≡ []
+    → (all : Given) × Gives (given_as [] no_options) words all × Fitting b all × (length all.operands ≡ count b)
 given_by b words texts none =
     let e : or_else (walk_fault (level b) [] (walk_from nothing_held) words) (end_fault b (end_of b words)) ≡ [] =
     sym (below_is b words) ∙ none in
@@ -326,51 +404,61 @@ given_by b words texts none =
       all,
       found.1,
       found.2,
-      four_given b all.operands all.merge all.flags (fold with_default rows (rules b))
-          (final_rows b all rows found.2 done.stands.holds) found.2.0
-          (sym (ap (λ (h : Held). check_fault (level b) (finished (rules b) h) false) done.held) ∙ checked),
+      all_needed b all.operands all.options found.2.0
+          (sym (checks b all (fold with_default rows (rules b)) (final_rows b all rows done.stands.holds))
+          ∙ sym (ap (λ (h : Held). check_fault (level b) (finished (rules b) h) false) done.held) ∙ checked),
     )
 
 -- ---- the commands
 
-abbrev pub command : Bool → Text
-command true = codes "shrink"
-command false = codes "verify"
-
-walk_merging : (b : Bool) (operands : List Text)
-    → walk top.rules names nothing_held (command b ∷ operands) ≡ stopped (command b) operands
+walk_command : (b : Command) (rest : List Text)
+    → walk top.rules names nothing_held (command_name b ∷ rest) ≡ stopped (command_name b) rest
 unfolding clap_on_literals
-walk_merging true operands = fold_stopped top.rules names (codes "shrink") [] operands
-walk_merging false operands = fold_stopped top.rules names (codes "verify") [] operands
+walk_command plain_command rest = fold_stopped top.rules names (codes "plain") [] rest
+walk_command check_command rest = fold_stopped top.rules names (codes "check") [] rest
+walk_command shrink_command rest = fold_stopped top.rules names (codes "shrink") [] rest
+walk_command verify_command rest = fold_stopped top.rules names (codes "verify") [] rest
+walk_command presets_command rest = fold_stopped top.rules names (codes "presets") [] rest
 
-walk_merging_fault : (b : Bool) (operands : List Text)
-    → walk_fault top names (walk_from nothing_held) (command b ∷ operands) ≡ []
+walk_command_fault : (b : Command) (rest : List Text)
+    → walk_fault top names (walk_from nothing_held) (command_name b ∷ rest) ≡ []
 unfolding clap_on_literals
-walk_merging_fault true operands = walk_stopped top names (codes "shrink") [] operands
-walk_merging_fault false operands = walk_stopped top names (codes "verify") [] operands
+walk_command_fault plain_command rest = walk_stopped top names (codes "plain") [] rest
+walk_command_fault check_command rest = walk_stopped top names (codes "check") [] rest
+walk_command_fault shrink_command rest = walk_stopped top names (codes "shrink") [] rest
+walk_command_fault verify_command rest = walk_stopped top names (codes "verify") [] rest
+walk_command_fault presets_command rest = walk_stopped top names (codes "presets") [] rest
 
-after_merging : (b : Bool) (operands : List Text)
-    → after (stopped (command b) operands) [] ≡ or_else (merging_below b operands) []
+after_command : (b : Command) (rest : List Text)
+    → after (stopped (command_name b) rest) [] ≡ or_else (below b rest) []
 unfolding clap_on_literals
-after_merging true operands = refl
-after_merging false operands = refl
+after_command plain_command rest = refl
+after_command check_command rest = refl
+after_command shrink_command rest = refl
+after_command verify_command rest = refl
+after_command presets_command rest = refl
 
-pub merging_fault : (b : Bool) (program : Text) (operands : List Text)
-    → fault_of stepmin_app (program ∷ command b ∷ operands) ≡ merging_below b operands
-merging_fault b program operands =
-    fault_after program (command b ∷ operands) ∙ ap₂ after (walk_merging b operands) (walk_merging_fault b operands)
-    ∙ after_merging b operands ∙ only_first (merging_below b operands)
+pub command_fault : (b : Command) (program : Text) (rest : List Text)
+    → fault_of stepmin_app (program ∷ command_name b ∷ rest) ≡ below b rest
+command_fault b program rest =
+    fault_after program (command_name b ∷ rest) ∙ ap₂ after (walk_command b rest) (walk_command_fault b rest)
+    ∙ after_command b rest ∙ only_first (below b rest)
 
-entered_values : (b : Bool) (operands : List Text)
-    → option_map {U = Text × Values} (λ (p : Text × List Row). (p.0, values_in p.1)) (entered (built stepmin_app) (Some (command b, operands)))
-    ≡ Some (command b, values_in (rows_after (rules b) [] operands))
+entered_rows : (b : Command) (rest : List Text)
+    → entered (built stepmin_app) (Some (command_name b, rest))
+    ≡ Some (command_name b, rows_after (rules b) [] rest)
 unfolding clap_on_literals
-entered_values true operands = refl
-entered_values false operands = refl
+entered_rows plain_command rest = refl
+entered_rows check_command rest = refl
+entered_rows shrink_command rest = refl
+entered_rows verify_command rest = refl
+entered_rows presets_command rest = refl
 
-pub merging_values : (b : Bool) (program : Text) (operands : List Text) (all : Given)
-    → values_in (rows_after (rules b) [] operands) ≡ values_of b all
-    → HasValues (subcommand_of stepmin_app (program ∷ command b ∷ operands)) (command b) (values_of b all)
-merging_values b program operands all are =
-    ap (λ w. option_map {U = Text × Values} (λ (p : Text × List Row). (p.0, values_in p.1)) (entered (built stepmin_app) w.stopped)) (walk_merging b operands)
-    ∙ entered_values b operands ∙ ap (λ v. Some (command b, v)) are
+pub command_values : (b : Command) (program : Text) (rest : List Text) (all : Given)
+    → HasGiven (rows_after (rules b) [] rest) b all
+    → HasValues (subcommand_of stepmin_app (program ∷ command_name b ∷ rest)) b all
+command_values b program rest all has = (
+  rows_after (rules b) [] rest,
+  ap (λ w. entered (built stepmin_app) w.stopped) (walk_command b rest) ∙ entered_rows b rest,
+  has,
+)

@@ -1,4 +1,4 @@
--- What clap makes of each word of a command with SCHEMA, FILE, OUT, CERT and `--merge`.
+-- What clap makes of each word of a command.
 use Rattle.std.proofs.Common.{◌≡◌, ◌⊎◌, ◌∙◌, ◌++◌, ◌+◌, ◌||◌, ◌==◌, ℕ, List, [], ◌∷◌, Option, Some, None, Bool, true, false, inl, inr, refl, sym, ap, ap₂, arith, codes}
 use Rattle.std.specs.Prelude.{drop, if◌then◌else◌, suc, take}
 use Rattle.std.specs.List.{before_first, after_first, position_or_len}
@@ -10,8 +10,9 @@ use Rattle.clap.specs.Lexer.{has_byte, name_and_value}
 use Rattle.clap.specs.Walk.{Held, Row, Rule, Step, Text, Walk, after_step, arg_by_index, arg_by_long, idle, option, settled_rows, to_positional, used, value, walked, word_met}
 use Rattle.clap.specs.Simple.{Shape, filled, help_rule, with_index}
 use Rattle.clap.specs.Faults.{react_fault, settle_fault, step_fault, turn_fault, word_fault}
-use Rattle.command_line.specs.Commands.{IsOperand, dashes}
-use Rattle.command_line.proofs.Levels.{in_sets_built, level, merge_built, rules, stand, strict_built}
+use Rattle.clap.specs.declared.error.kind.ErrorKind.TheVariants as kind
+use Rattle.command_line.specs.Commands.{Command, Flag, IsOperand, Valued, alias_option, check_command, dashes, flag_name, in_sets_flag, merge_option, plain_command, presets_command, shrink_command, strict_flag, value_name, verify_command}
+use Rattle.command_line.proofs.Levels.{TakesFlag, TakesValue, check_alias, flag_built, level, rules, shrink_alias, shrink_in_sets, shrink_merge, shrink_strict, stand, value_built, verify_alias, verify_in_sets, verify_merge}
 use Rattle.command_line.proofs.Walking.{AsksIf, AsksShort, help_asks, no_option, waits}
 
 -- ---- operands
@@ -52,70 +53,88 @@ dashes_walk c h p = refl
 
 -- ---- options
 
-pub strict_turn : (rows : List Row) (pending : Option (Text × List Text)) (p : ℕ)
-    → turn_fault (level true) [] (stand false (waits rows pending) p) (codes "--strict")
-    ≡ or_else (react_fault (rules true) false strict_built [] (waits rows pending)) []
-strict_turn rows pending p = refl
+pub flag_turn : {b : Command} {f : Flag} → TakesFlag b f → (rows : List Row) (pending : Option (Text × List Text)) (p : ℕ)
+    → turn_fault (level b) [] (stand false (waits rows pending) p) (dashes ++ flag_name f)
+    ≡ or_else (react_fault (rules b) false (flag_built (flag_name f)) [] (waits rows pending)) []
+flag_turn shrink_in_sets rows pending p = refl
+flag_turn shrink_strict rows pending p = refl
+flag_turn verify_in_sets rows pending p = refl
 
-pub strict_walk : (rows : List Row) (pending : Option (Text × List Text)) (p : ℕ)
-    → walked (rules true) [] (stand false (waits rows pending) p) (codes "--strict")
-    ≡ stand false (waits (used strict_built [] (settled_rows (rules true) pending rows)) None) p
+pub flag_walk : {b : Command} {f : Flag} → TakesFlag b f → (rows : List Row) (pending : Option (Text × List Text)) (p : ℕ)
+    → walked (rules b) [] (stand false (waits rows pending) p) (dashes ++ flag_name f)
+    ≡ stand false (waits (used (flag_built (flag_name f)) [] (settled_rows (rules b) pending rows)) None) p
 unfolding walked
-strict_walk rows pending p = refl
+flag_walk shrink_in_sets rows pending p = refl
+flag_walk shrink_strict rows pending p = refl
+flag_walk verify_in_sets rows pending p = refl
 
-pub in_sets_turn : (b : Bool) (rows : List Row) (pending : Option (Text × List Text)) (p : ℕ)
-    → turn_fault (level b) [] (stand false (waits rows pending) p) (codes "--in-sets")
-    ≡ or_else (react_fault (rules b) false in_sets_built [] (waits rows pending)) []
-in_sets_turn true rows pending p = refl
-in_sets_turn false rows pending p = refl
+pub joined_turn : {b : Command} {o : Valued} → TakesValue b o → (rows : List Row) (pending : Option (Text × List Text)) (p : ℕ) (v : Text)
+    → turn_fault (level b) [] (stand false (waits rows pending) p) (dashes ++ (value_name o ++ 61 ∷ v))
+    ≡ or_else (react_fault (rules b) false (value_built (value_name o)) (v ∷ []) (waits rows pending)) []
+joined_turn check_alias rows pending p v = refl
+joined_turn shrink_merge rows pending p v = refl
+joined_turn shrink_alias rows pending p v = refl
+joined_turn verify_merge rows pending p v = refl
+joined_turn verify_alias rows pending p v = refl
 
-pub in_sets_walk : (b : Bool) (rows : List Row) (pending : Option (Text × List Text)) (p : ℕ)
-    → walked (rules b) [] (stand false (waits rows pending) p) (codes "--in-sets")
-    ≡ stand false (waits (used in_sets_built [] (settled_rows (rules b) pending rows)) None) p
+pub joined_walk : {b : Command} {o : Valued} → TakesValue b o → (rows : List Row) (pending : Option (Text × List Text)) (p : ℕ) (v : Text)
+    → walked (rules b) [] (stand false (waits rows pending) p) (dashes ++ (value_name o ++ 61 ∷ v))
+    ≡ stand false (waits (used (value_built (value_name o)) (v ∷ []) (settled_rows (rules b) pending rows)) None) p
 unfolding walked
-in_sets_walk true rows pending p = refl
-in_sets_walk false rows pending p = refl
+joined_walk check_alias rows pending p v = refl
+joined_walk shrink_merge rows pending p v = refl
+joined_walk shrink_alias rows pending p v = refl
+joined_walk verify_merge rows pending p v = refl
+joined_walk verify_alias rows pending p v = refl
 
-pub joined_turn : (b : Bool) (rows : List Row) (pending : Option (Text × List Text)) (p : ℕ) (names : Text)
-    → turn_fault (level b) [] (stand false (waits rows pending) p) (codes "--merge=" ++ names)
-    ≡ or_else (react_fault (rules b) false merge_built (names ∷ []) (waits rows pending)) []
-joined_turn true rows pending p names = refl
-joined_turn false rows pending p names = refl
+-- an option has come, and its value hasn't
+abbrev pub unnamed : Text → List Row → ℕ → Walk
+unnamed name rows p = record (stand false (waits rows (Some (name, []))) p) { waiting = option name }
 
-pub joined_walk : (b : Bool) (rows : List Row) (pending : Option (Text × List Text)) (p : ℕ) (names : Text)
-    → walked (rules b) [] (stand false (waits rows pending) p) (codes "--merge=" ++ names)
-    ≡ stand false (waits (used merge_built (names ∷ []) (settled_rows (rules b) pending rows)) None) p
-unfolding walked
-joined_walk true rows pending p names = refl
-joined_walk false rows pending p names = refl
-
--- `--merge` has come, and its names have not
-abbrev pub unnamed : List Row → ℕ → Walk
-unnamed rows p = record (stand false (waits rows (Some (codes "merge", []))) p) { waiting = option (codes "merge") }
-
-pub merge_turn : (b : Bool) (rows : List Row) (pending : Option (Text × List Text)) (p : ℕ)
-    → turn_fault (level b) [] (stand false (waits rows pending) p) (codes "--merge")
+pub option_turn : {b : Command} {o : Valued} → TakesValue b o → (rows : List Row) (pending : Option (Text × List Text)) (p : ℕ)
+    → turn_fault (level b) [] (stand false (waits rows pending) p) (dashes ++ value_name o)
     ≡ or_else (settle_fault (rules b) false (waits rows pending)) []
-merge_turn true rows pending p = refl
-merge_turn false rows pending p = refl
+option_turn check_alias rows pending p = refl
+option_turn shrink_merge rows pending p = refl
+option_turn shrink_alias rows pending p = refl
+option_turn verify_merge rows pending p = refl
+option_turn verify_alias rows pending p = refl
 
-pub merge_walk : (b : Bool) (rows : List Row) (pending : Option (Text × List Text)) (p : ℕ)
-    → walked (rules b) [] (stand false (waits rows pending) p) (codes "--merge")
-    ≡ unnamed (settled_rows (rules b) pending rows) p
+pub option_walk : {b : Command} {o : Valued} → TakesValue b o → (rows : List Row) (pending : Option (Text × List Text)) (p : ℕ)
+    → walked (rules b) [] (stand false (waits rows pending) p) (dashes ++ value_name o)
+    ≡ unnamed (value_name o) (settled_rows (rules b) pending rows) p
 unfolding walked
-merge_walk true rows pending p = refl
-merge_walk false rows pending p = refl
+option_walk check_alias rows pending p = refl
+option_walk shrink_merge rows pending p = refl
+option_walk shrink_alias rows pending p = refl
+option_walk verify_merge rows pending p = refl
+option_walk verify_alias rows pending p = refl
 
-pub names_turn : (b : Bool) (rows : List Row) (p : ℕ) (names : Text) → IsOperand names
-    → turn_fault (level b) [] (unnamed rows p) names ≡ []
-names_turn true rows p names is = let n = no_option names is in rw (n.2, n.0, n.1) refl
-names_turn false rows p names is = let n = no_option names is in rw (n.2, n.0, n.1) refl
+pub named_turn : {b : Command} {o : Valued} → TakesValue b o → (rows : List Row) (p : ℕ) (v : Text) → IsOperand v
+    → turn_fault (level b) [] (unnamed (value_name o) rows p) v ≡ []
+named_turn check_alias rows p v is = let n = no_option v is in rw (n.2, n.0, n.1) refl
+named_turn shrink_merge rows p v is = let n = no_option v is in rw (n.2, n.0, n.1) refl
+named_turn shrink_alias rows p v is = let n = no_option v is in rw (n.2, n.0, n.1) refl
+named_turn verify_merge rows p v is = let n = no_option v is in rw (n.2, n.0, n.1) refl
+named_turn verify_alias rows p v is = let n = no_option v is in rw (n.2, n.0, n.1) refl
 
-pub names_walk : (b : Bool) (rows : List Row) (p : ℕ) (names : Text) → IsOperand names
-    → walked (rules b) [] (unnamed rows p) names ≡ stand false (waits rows (Some (codes "merge", names ∷ []))) p
+pub named_walk : {b : Command} {o : Valued} → TakesValue b o → (rows : List Row) (p : ℕ) (v : Text) → IsOperand v
+    → walked (rules b) [] (unnamed (value_name o) rows p) v
+    ≡ stand false (waits rows (Some (value_name o, v ∷ []))) p
 unfolding walked
-names_walk true rows p names is = let n = no_option names is in rw (n.2, n.0, n.1) refl
-names_walk false rows p names is = let n = no_option names is in rw (n.2, n.0, n.1) refl
+named_walk check_alias rows p v is = let n = no_option v is in rw (n.2, n.0, n.1) refl
+named_walk shrink_merge rows p v is = let n = no_option v is in rw (n.2, n.0, n.1) refl
+named_walk shrink_alias rows p v is = let n = no_option v is in rw (n.2, n.0, n.1) refl
+named_walk verify_merge rows p v is = let n = no_option v is in rw (n.2, n.0, n.1) refl
+named_walk verify_alias rows p v is = let n = no_option v is in rw (n.2, n.0, n.1) refl
+
+pub unnamed_waits : {b : Command} {o : Valued} → TakesValue b o → (rows : List Row)
+    → settle_fault (rules b) false (waits rows (Some (value_name o, []))) ≡ kind.InvalidValue ∷ []
+unnamed_waits check_alias rows = refl
+unnamed_waits shrink_merge rows = refl
+unnamed_waits shrink_alias rows = refl
+unnamed_waits verify_merge rows = refl
+unnamed_waits verify_alias rows = refl
 
 -- ---- names of options
 
@@ -153,38 +172,61 @@ spelt text = elim (parts text) [
 ]
 
 -- the options of a level
-pub data IsNamed (b : Bool) (name : Text) : Type 0 where
-  merge : name ≡ codes "merge" → arg_by_long (rules b) name ≡ Some merge_built → IsNamed b name
-  in_sets : name ≡ codes "in-sets" → arg_by_long (rules b) name ≡ Some in_sets_built → IsNamed b name
-  strict : name ≡ codes "strict" → b ≡ true → arg_by_long (rules b) name ≡ Some strict_built → IsNamed b name
+pub data IsNamed (b : Command) (name : Text) : Type 0 where
+  value_named : (o : Valued) → name ≡ value_name o → TakesValue b o
+      → arg_by_long (rules b) name ≡ Some (value_built (value_name o)) → IsNamed b name
+  flag_named : (f : Flag) → name ≡ flag_name f → TakesFlag b f
+      → arg_by_long (rules b) name ≡ Some (flag_built (flag_name f)) → IsNamed b name
   other : AsksIf (arg_by_long (rules b) name) → IsNamed b name
 
-pub named : (b : Bool) (name : Text) → IsNamed b name
-named b name = by b (bytes_eq (codes "merge") name) (bytes_eq (codes "in-sets") name) (bytes_eq (codes "strict") name)
-    (bytes_eq (codes "help") name) refl refl refl refl
-  where
-    by : (b m n s h : Bool) → bytes_eq (codes "merge") name ≡ m → bytes_eq (codes "in-sets") name ≡ n
-        → bytes_eq (codes "strict") name ≡ s → bytes_eq (codes "help") name ≡ h → IsNamed b name
-    by true true n s h is _ _ _ = merge (sym ((bytes_eq-Decides (codes "merge") name).0 is)) (rw is refl)
-    by false true n s h is _ _ _ = merge (sym ((bytes_eq-Decides (codes "merge") name).0 is)) (rw is refl)
-    by true false true s h m is _ _ = in_sets (sym ((bytes_eq-Decides (codes "in-sets") name).0 is)) (rw (m, is) refl)
-    by false false true s h m is _ _ = in_sets (sym ((bytes_eq-Decides (codes "in-sets") name).0 is)) (rw (m, is) refl)
-    by true false false true h m n is _ =
-        strict (sym ((bytes_eq-Decides (codes "strict") name).0 is)) refl (rw (m, n, is) refl)
-    by true false false false true m n s is = other (rw (m, n, s, is) help_asks)
-    by true false false false false m n s h = other (rw (m, n, s, h) tt)
-    by false false false s true m n _ is = other (rw (m, n, is) help_asks)
-    by false false false s false m n _ h = other (rw (m, n, h) tt)
+same_name : (known name : Text) → bytes_eq known name ≡ true → name ≡ known
+same_name known name is = sym ((bytes_eq-Decides known name).0 is)
+
+help_only : (h : Bool) → AsksIf (if h || false then Some (with_index 1 (filled help_rule)) else None)
+help_only true = help_asks
+help_only false = tt
+
+named_check : (name : Text) (a : Bool) → bytes_eq (codes "schema-alias") name ≡ a → IsNamed check_command name
+named_check name true is = value_named alias_option (same_name (codes "schema-alias") name is) check_alias (rw is refl)
+named_check name false a = other (rw a (help_only (bytes_eq (codes "help") name)))
+
+named_shrink : (name : Text) (m a n s : Bool) → bytes_eq (codes "merge") name ≡ m
+    → bytes_eq (codes "schema-alias") name ≡ a → bytes_eq (codes "in-sets") name ≡ n
+    → bytes_eq (codes "strict") name ≡ s → IsNamed shrink_command name
+named_shrink name true a n s is _ _ _ =
+    value_named merge_option (same_name (codes "merge") name is) shrink_merge (rw is refl)
+named_shrink name false true n s m is _ _ =
+    value_named alias_option (same_name (codes "schema-alias") name is) shrink_alias (rw (m, is) refl)
+named_shrink name false false true s m a is _ =
+    flag_named in_sets_flag (same_name (codes "in-sets") name is) shrink_in_sets (rw (m, a, is) refl)
+named_shrink name false false false true m a n is =
+    flag_named strict_flag (same_name (codes "strict") name is) shrink_strict (rw (m, a, n, is) refl)
+named_shrink name false false false false m a n s =
+    other (rw (m, a, n, s) (help_only (bytes_eq (codes "help") name)))
+
+named_verify : (name : Text) (m a n : Bool) → bytes_eq (codes "merge") name ≡ m
+    → bytes_eq (codes "schema-alias") name ≡ a → bytes_eq (codes "in-sets") name ≡ n → IsNamed verify_command name
+named_verify name true a n is _ _ =
+    value_named merge_option (same_name (codes "merge") name is) verify_merge (rw is refl)
+named_verify name false true n m is _ =
+    value_named alias_option (same_name (codes "schema-alias") name is) verify_alias (rw (m, is) refl)
+named_verify name false false true m a is =
+    flag_named in_sets_flag (same_name (codes "in-sets") name is) verify_in_sets (rw (m, a, is) refl)
+named_verify name false false false m a n = other (rw (m, a, n) (help_only (bytes_eq (codes "help") name)))
+
+pub named : (b : Command) (name : Text) → IsNamed b name
+named plain_command name = other (help_only (bytes_eq (codes "help") name))
+named check_command name = named_check name (bytes_eq (codes "schema-alias") name) refl
+named shrink_command name = named_shrink name (bytes_eq (codes "merge") name) (bytes_eq (codes "schema-alias") name)
+    (bytes_eq (codes "in-sets") name) (bytes_eq (codes "strict") name) refl refl refl refl
+named verify_command name = named_verify name (bytes_eq (codes "merge") name) (bytes_eq (codes "schema-alias") name)
+    (bytes_eq (codes "in-sets") name) refl refl refl
+named presets_command name = other (help_only (bytes_eq (codes "help") name))
 
 -- the one short flag asks for help
-pub short_asks : (b : Bool) → AsksShort (rules b)
-short_asks true x = help_alone (104 == x)
-  where
-    help_alone : (h : Bool) → AsksIf (if h || false then Some (with_index 5 (filled help_rule)) else None)
-    help_alone true = help_asks
-    help_alone false = tt
-short_asks false x = help_alone (104 == x)
-  where
-    help_alone : (h : Bool) → AsksIf (if h || false then Some (with_index 5 (filled help_rule)) else None)
-    help_alone true = help_asks
-    help_alone false = tt
+pub short_asks : (b : Command) → AsksShort (rules b)
+short_asks plain_command x = help_only (104 == x)
+short_asks check_command x = help_only (104 == x)
+short_asks shrink_command x = help_only (104 == x)
+short_asks verify_command x = help_only (104 == x)
+short_asks presets_command x = help_only (104 == x)

@@ -1,10 +1,10 @@
 -- What clap makes of the words of a level, one by one.
-use Rattle.std.proofs.Common.{◌≡◌, ◌⊎◌, ◌==◌, ◌||◌, ℕ, List, [], ◌∷◌, ◌++◌, Option, Some, None, Bool, true, false, refl, sym, ap, ap₂, ◌∙◌, inl, inr, codes, arith, rules, true≢false, append-nil, append_assoc, subst}
+use Rattle.std.proofs.Common.{◌≡◌, ◌⊎◌, ◌==◌, ◌||◌, ℕ, List, [], ◌∷◌, ◌++◌, Option, Some, None, Bool, true, false, refl, sym, ap, ◌∙◌, inl, inr, codes, arith, rules, true≢false, append-nil, append_assoc, subst}
 use Rattle.std.specs.List.{fold}
 use Rattle.std.specs.Str.{bytes_eq, chars}
 use Rattle.clap.specs.Kinds.{Kinds, or_else}
 use Rattle.clap.specs.Walk.{Step, value, subcommand_met, idle, word_met, arg_by_short, reacted, finished, settled, Held, Names, Rule, Row, Text, Walk, arg_by_long, nothing_held, takes_values, walk, walk_from, walked}
-use Rattle.clap.specs.Simple.{entered, help_rule, version_rule, filled, with_index, Shape, built, built_leaf, inherited, names_of, is_simple}
+use Rattle.clap.specs.Simple.{entered, help_rule, version_rule, filled, with_index, Shape, built, names_of, is_simple}
 use Rattle.std.specs.Str.{IsUtf8}
 use Rattle.std.proofs.lemmas.Str.{encodes-IsAscii, encodes-chars}
 use Rattle.std.proofs.Math.Utf8.{encodes}
@@ -12,10 +12,9 @@ use Rattle.std.proofs.lemmas.Bool.{ne_eqb}
 use Rattle.std.proofs.lemmas.Bool.Decides.{eqb_tells}
 use Rattle.std.specs.Prelude.{length, drop, encode_utf8, slice_get, suc, if◌then◌else◌, is_some}
 use Rattle.clap.specs.Lexer.{name_and_value, long_of, short_of}
-use Rattle.clap.specs.Faults.{bundle_fault, step_fault, word_fault, bundle_step_fault, flags_fault, react_fault, short_fault, use_fault, check_fault, defaults_fault, entered_fault, settle_fault, fault_of, is_simple_and_free, level_fault, long_fault, walk_fault, turn_fault}
+use Rattle.clap.specs.Faults.{bundle_fault, step_fault, word_fault, bundle_step_fault, flags_fault, react_fault, short_fault, use_fault, check_fault, defaults_fault, entered_fault, settle_fault, fault_of, is_simple_and_free, long_fault, walk_fault, turn_fault}
 use Rattle.clap.specs.declared.error.kind.ErrorKind.{ErrorKind}
-use Rattle.clap.proofs.OnLiterals.{clap_on_literals}
-use Rattle.command_line.specs.Clap.{check_app, plain_app, stepmin_app}
+use Rattle.command_line.specs.Clap.{stepmin_app}
 use Rattle.command_line.specs.Commands.{IsOperand, dashes}
 
 abbrev pub top : Shape
@@ -23,12 +22,6 @@ top = (built stepmin_app).top
 
 abbrev pub names : Names
 names = names_of (built stepmin_app)
-
-abbrev pub sub : Shape
-sub = built_leaf (inherited stepmin_app.top plain_app.top)
-
-abbrev pub check_sub : Shape
-check_sub = built_leaf (inherited stepmin_app.top check_app.top)
 
 pub simple_and_free : is_simple_and_free stepmin_app ≡ true
 simple_and_free = refl
@@ -69,22 +62,6 @@ fold_stopped c ns name earlier [] = ap (stopped name) (sym (append-nil earlier))
 fold_stopped c ns name earlier (w ∷ ws) = fold_stopped c ns name (earlier ++ w ∷ []) ws
     ∙ ap (stopped name) (append_assoc earlier (w ∷ []) ws)
 
-pub walk_plain : (operands : List Text)
-    → walk top.rules names nothing_held (codes "plain" ∷ operands) ≡ stopped (codes "plain") operands
-unfolding clap_on_literals
-walk_plain operands = fold_stopped top.rules names (codes "plain") [] operands
-
-pub walk_check : (operands : List Text)
-    → walk top.rules names nothing_held (codes "check" ∷ operands) ≡ stopped (codes "check") operands
-unfolding clap_on_literals
-walk_check operands = fold_stopped top.rules names (codes "check") [] operands
-
-abbrev pub below : List Text → Kinds
-below operands = level_fault sub [] nothing_held operands false []
-
-abbrev pub below_check : List Text → Kinds
-below_check operands = level_fault check_sub [] nothing_held operands false []
-
 -- what is left to fail behind a walk over the words
 abbrev pub after : Walk → Kinds → Kinds
 after w faults =
@@ -98,40 +75,9 @@ pub fault_after : (program : Text) (words : List Text) → fault_of stepmin_app 
     (walk top.rules names nothing_held words) (walk_fault top names (walk_from nothing_held) words)
 fault_after program words = refl
 
-walk_plain_fault : (operands : List Text) → walk_fault top names (walk_from nothing_held)
-    (codes "plain" ∷ operands) ≡ []
-unfolding clap_on_literals
-walk_plain_fault operands = walk_stopped top names (codes "plain") [] operands
-
-walk_check_fault : (operands : List Text) → walk_fault top names (walk_from nothing_held)
-    (codes "check" ∷ operands) ≡ []
-unfolding clap_on_literals
-walk_check_fault operands = walk_stopped top names (codes "check") [] operands
-
 pub only_first : (a : Kinds) → or_else a [] ≡ a
 only_first [] = refl
 only_first (k ∷ ks) = refl
-
-after_plain : (operands : List Text) → after (stopped (codes "plain") operands) [] ≡ or_else (below operands) []
-unfolding clap_on_literals
-after_plain operands = refl
-
-after_check : (operands : List Text)
-    → after (stopped (codes "check") operands) [] ≡ or_else (below_check operands) []
-unfolding clap_on_literals
-after_check operands = refl
-
-pub plain_below : (program : Text) (operands : List Text) → fault_of stepmin_app (program ∷ codes "plain"
-    ∷ operands) ≡ below operands
-plain_below program operands =
-    fault_after program (codes "plain" ∷ operands) ∙ ap₂ after (walk_plain operands) (walk_plain_fault operands)
-    ∙ after_plain operands ∙ only_first (below operands)
-
-pub check_below : (program : Text) (operands : List Text) → fault_of stepmin_app (program ∷ codes "check"
-    ∷ operands) ≡ below_check operands
-check_below program operands =
-    fault_after program (codes "check" ∷ operands) ∙ ap₂ after (walk_check operands) (walk_check_fault operands)
-    ∙ after_check operands ∙ only_first (below_check operands)
 
 -- ---- the words that are read
 
@@ -205,26 +151,6 @@ top_asks = record {
     either true v = help_asks
     either false true = version_asks
     either false false = tt
-
-pub sub_asks : AsksOnly sub.rules
-sub_asks = record {
-  long = λ name. help_alone (bytes_eq (codes "help") name);
-  short = λ x. help_alone (104 == x);
-}
-  where
-    help_alone : (h : Bool) → AsksIf (if h || false then Some (with_index 1 (filled help_rule)) else None)
-    help_alone true = help_asks
-    help_alone false = tt
-
-pub check_asks : AsksOnly check_sub.rules
-check_asks = record {
-  long = λ name. help_alone (bytes_eq (codes "help") name);
-  short = λ x. help_alone (104 == x);
-}
-  where
-    help_alone : (h : Bool) → AsksIf (if h || false then Some (with_index 1 (filled help_rule)) else None)
-    help_alone true = help_asks
-    help_alone false = tt
 
 asks_refused : (c : List Rule) (again : Bool) (flag : Rule) (h : Held) → Asks flag
     → react_fault c again flag [] h ≡ [] → ⊥

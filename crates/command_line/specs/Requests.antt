@@ -5,21 +5,22 @@ use Rattle.clap.specs.Faults.{fault_of}
 use Rattle.clap.specs.declared.error.kind.ErrorKind.{ErrorKind}
 use Rattle.clap.specs.declared.error.kind.ErrorKind.TheVariants.{DisplayHelp, DisplayVersion, OutOfMemory}
 use Rattle.command_line.specs.Clap.{stepmin_app}
-use Rattle.command_line.specs.Commands.{AsksPlain, AsksCheck, AsksShrink, AsksVerify, AsksClashing, flags_of}
-use Rattle.command_line.specs.steps.AskedMerges.{text_of}
+use Rattle.command_line.specs.Commands.{AsksPlain, AsksCheck, AsksShrink, AsksVerify, AsksPresets, AsksClashing}
+use Rattle.command_line.specs.steps.Options.{check_options, shrink_options, verify_options}
 use Rattle.command_line.specs.declared.command_words.Refusal.{Refusal}
 use Rattle.command_line.specs.declared.command_words.Refusal.TheVariants.{Shown, Usage, Memory}
 use Rattle.command_line.specs.declared.command_words.Request.{Request}
-use Rattle.command_line.specs.declared.command_words.Request.TheVariants.{Plain, Check, Shrink, Verify}
+use Rattle.command_line.specs.declared.command_words.Request.TheVariants.{Plain, Check, Shrink, Verify, Presets}
 
 -- The arguments request this.
 abbrev pub AskFor : List (List ℕ) → Request → Type 0
 AskFor words (Plain path) = AsksPlain words path.now
-AskFor words (Check schema file) = AsksCheck words schema.now file.now
+AskFor words (Check asked) = AsksCheck words asked.schema.now asked.file.now (check_options asked)
 AskFor words (Shrink asked) = AsksShrink words asked.schema.now asked.file.now asked.output.now asked.certificate.now
-    (text_of asked.merge) (flags_of asked.in_sets asked.strict)
+    (shrink_options asked)
 AskFor words (Verify asked) = AsksVerify words asked.schema.now asked.file.now asked.output.now asked.certificate.now
-    (text_of asked.merge) asked.in_sets
+    (verify_options asked)
+AskFor words Presets = AsksPresets words
 
 -- clap's error isn't a mistake, but a request for a text: help or the version
 abbrev pub is_shown : ErrorKind → Bool

@@ -2,10 +2,10 @@
 
 ghost use Rattle.std.specs.Prelude.{
   ◌≡◌,
+  ◌∷◌,
+  [],
   ℕ,
-  Bool,
   List,
-  Option,
   Some,
   false,
   IfOk,
@@ -13,6 +13,7 @@ ghost use Rattle.std.specs.Prelude.{
   IfSome,
   codes,
   is_some,
+  length,
   option_map,
   true,
 };
@@ -24,16 +25,27 @@ ghost use Rattle.clap.specs.declared.builder.command.Command.TheViews.{out-Comma
 ghost use Rattle.clap.specs.Values.{kind_of};
 ghost use Rattle.std.specs.declared.io.ErrorKind.TheVariants.{OutOfMemory};
 ghost use Rattle.command_line.specs.Clap.{
-  HasFile,
-  HasFiles,
+  HasValues,
+  alias_rule,
   check_app,
   file_rule,
   plain_app,
+  presets_app,
   schema_rule,
   stepmin_app,
 };
-ghost use Rattle.command_line.specs.Commands.{AsksCheck, AsksPlain, AsksShrink, AsksVerify, Flags, texts};
-ghost use Rattle.command_line.specs.steps.AskedMerges.{text_of};
+ghost use Rattle.command_line.specs.Commands.{
+  Given,
+  IsAskedFor,
+  TakesOptions,
+  check_command,
+  given_as,
+  no_options,
+  plain_command,
+  texts,
+};
+ghost use Rattle.command_line.specs.steps.Options.{text_of};
+ghost use Rattle.command_line.specs.steps.AskedMerges.{check_given};
 ghost use Rattle.command_line.specs.Requests.{
   AskFor,
   CallFor,
@@ -45,7 +57,8 @@ ghost use Rattle.command_line.specs.Requests.{
 ghost use Rattle.command_line.specs.declared.command_words.Refusal.TheVariants.{Memory};
 
 use crate::merge_words::{
-    ShrinkRequest, VerifyRequest, clash, shrink, shrink_in, verify, verify_in,
+    ShrinkRequest, VerifyRequest, name_clash, shrink, shrink_clash, shrink_in, verify,
+    verify_clash, verify_in,
 };
 use clap::error::ErrorKind;
 use clap::{Arg, ArgAction, ArgMatches, Command, Error};
@@ -73,17 +86,31 @@ const PLAIN_HELP: &str = "Example:\n  \
 const CHECK_HELP: &str = "Example:\n  \
     stepmin check ap214.exp part.stp";
 
+/// The arguments of `check`.
+#[derive(Clone, Copy, Debug, PartialEq, Eq)]
+pub struct CheckRequest<'p> {
+    /// The path of the schema.
+    pub schema: &'p str,
+    /// The path of the file that is checked.
+    pub file: &'p str,
+    /// The names by which FILE may call the schema beside its own; commas separate them, and none
+    /// is empty.
+    pub schema_alias: Option<&'p str>,
+}
+
 /// What the arguments request.
 #[derive(Clone, Copy, Debug, PartialEq, Eq)]
 pub enum Request<'p> {
     /// `plain`: the normal text of the file at this path.
     Plain(&'p str),
-    /// `check`: whether the file at the second path conforms to the schema at the first path.
-    Check(&'p str, &'p str),
+    /// `check`: whether a file conforms to a schema.
+    Check(CheckRequest<'p>),
     /// `shrink`: a smaller file and its certificate.
     Shrink(ShrinkRequest<'p>),
     /// `verify`: whether a certificate proves a smaller file.
     Verify(VerifyRequest<'p>),
+    /// `presets`: what each preset of `--merge` has.
+    Presets,
 }
 
 /// Why the arguments don't lead to a command.
@@ -127,6 +154,18 @@ pub(crate) fn schema<'a>(alloc: Global) -> Arg<'a>
         .help("The schema that it is checked against")
 }
 
+// Returns the option `--schema-alias`.
+pub(crate) fn schema_alias<'a>(alloc: Global) -> Arg<'a>
+    ensures rule { rule_of result ≡ alias_rule }
+    ensures local { result.global ≡ false }
+{
+    Arg::new(alloc, "schema-alias")
+        .long("schema-alias")
+        .value_name("NAMES")
+        .action(ArgAction::Set)
+        .help("Other names by which FILE may call the schema")
+}
+
 // Returns the command `plain`.
 fn plain<'a>(alloc: Global) -> Result<Command<'a>, AllocError>
     ensures app { IfOk result (λ command. app_of command ≡ plain_app) }
@@ -147,7 +186,16 @@ fn check<'a>(alloc: Global) -> Result<Command<'a>, AllocError>
         .about("Reports where a STEP file breaks its schema")
         .after_help(CHECK_HELP)
         .arg(schema(alloc))?
-        .arg(file(alloc))
+        .arg(file(alloc))?
+        .arg(schema_alias(alloc))
+}
+
+// Returns the command `presets`.
+fn presets<'a>(alloc: Global) -> Command<'a>
+    ensures app { app_of result ≡ presets_app }
+    ensures local { (out-Command result).has_globals ≡ false }
+{
+    Command::new(alloc, "presets").about("Lists the presets of --merge, and what each has")
 }
 
 // Returns the command line as clap parses it.
@@ -166,12 +214,14 @@ fn stepmin<'a>(alloc: Global) -> Result<Command<'a>, AllocError>
         .subcommand(plain)?
         .subcommand(check)?
         .subcommand(shrink)?
-        .subcommand(verify)
+        .subcommand(verify)?
+        .subcommand(presets(alloc))
 }
 
 // Returns the FILE of `plain`, if that is the command.
 fn path_in<'p>(matches: &ArgMatches<'p>) -> Option<&'p str>
-    ensures file { (path : List ℕ) → HasFile (subcommand_rows_of matches.now) path
+    ensures file { (path : List ℕ)
+        → HasValues (subcommand_rows_of matches.now) plain_command (given_as (path ∷ []) no_options)
         → option_map (λ text. text.now) result ≡ Some path }
     ensures command { IfSome result
         (λ _. subcommand_name_of matches.now ≡ Some (codes "plain")) }
@@ -179,20 +229,36 @@ fn path_in<'p>(matches: &ArgMatches<'p>) -> Option<&'p str>
     matches.subcommand_matches("plain")?.get_str("FILE")
 }
 
-// Returns the SCHEMA and the FILE of `check`, if that is the command.
-fn paths_in<'p>(matches: &ArgMatches<'p>) -> Option<(&'p str, &'p str)>
+// Returns the arguments of `check`, if that is the command.
+fn check_in<'p>(matches: &ArgMatches<'p>) -> Option<CheckRequest<'p>>
     ensures command { IfSome result
         (λ _. subcommand_name_of matches.now ≡ Some (codes "check")) }
-    ensures files { (schema : List ℕ) → (file : List ℕ)
-        → HasFiles (subcommand_rows_of matches.now) schema file
-        → IfSome result (λ paths. (paths.0.now ≡ schema) × (paths.1.now ≡ file)) }
-    ensures found { (schema : List ℕ) → (file : List ℕ)
-        → HasFiles (subcommand_rows_of matches.now) schema file → is_some result ≡ true }
+    ensures values { (all : Given) → length all.operands ≡ 2
+        → TakesOptions check_command all.options
+        → HasValues (subcommand_rows_of matches.now) check_command all
+        → IfSome result (λ asked. check_given asked ≡ all) }
+    ensures found { (all : Given) → length all.operands ≡ 2
+        → HasValues (subcommand_rows_of matches.now) check_command all
+        → is_some result ≡ true }
 {
     let found = matches.subcommand_matches("check")?;
     let schema = found.get_str("SCHEMA")?;
     let file = found.get_str("FILE")?;
-    Some((schema, file))
+    Some(CheckRequest {
+        schema,
+        file,
+        schema_alias: found.get_str("schema-alias"),
+    })
+}
+
+// Whether the command is `presets`.
+fn is_presets(matches: &ArgMatches<'_>) -> bool
+    ensures { result ≡ true → subcommand_name_of matches.now ≡ Some (codes "presets") }
+{
+    match matches.subcommand_matches("presets") {
+        Some(_) => true,
+        None => false,
+    }
 }
 
 // Whether clap's error isn't a mistake, but a text that was requested.
@@ -259,23 +325,14 @@ pub fn unread_words(alloc: Global, error: &io::Error) -> Refusal
 /// # Errors
 /// - `Shown` for `--help`, `help` and `--version`.
 /// - `Usage` if the arguments aren't a command, OUT or CERT equals SCHEMA, CERT equals FILE or OUT,
-///   or a name after `--merge` is empty, or begins with `@` and isn't that of a preset.
+///   a name after `--merge` or `--schema-alias` is empty, or a name after `--merge` begins with `@`
+///   and isn't that of a preset.
 /// - `Memory` if memory runs out.
 pub fn read_words<'p>(alloc: Global, words: &'p [String]) -> Result<Request<'p>, Refusal>
     ensures asked { IfOk result (AskFor (texts words.now)) }
     ensures refused { IfErr result (CallFor (texts words.now)) }
     // Arguments that request something are refused only if memory runs out.
-    ensures granted { (path : List ℕ) → AsksPlain (texts words.now) path
-        → IfErr result (λ refusal. refusal ≡ Memory) }
-    ensures check_granted { (schema : List ℕ) → (file : List ℕ)
-        → AsksCheck (texts words.now) schema file → IfErr result (λ refusal. refusal ≡ Memory) }
-    ensures shrink_granted { (schema : List ℕ) → (file : List ℕ) → (output : List ℕ)
-        → (certificate : List ℕ) → (merge : Option (List ℕ)) → (flags : Flags)
-        → AsksShrink (texts words.now) schema file output certificate merge flags
-        → IfErr result (λ refusal. refusal ≡ Memory) }
-    ensures verify_granted { (schema : List ℕ) → (file : List ℕ) → (output : List ℕ)
-        → (certificate : List ℕ) → (merge : Option (List ℕ)) → (in_sets : Bool)
-        → AsksVerify (texts words.now) schema file output certificate merge in_sets
+    ensures granted { IsAskedFor (texts words.now)
         → IfErr result (λ refusal. refusal ≡ Memory) }
 {
     let matches = match stepmin(alloc)?.try_get_matches_from(words) {
@@ -285,31 +342,21 @@ pub fn read_words<'p>(alloc: Global, words: &'p [String]) -> Result<Request<'p>,
     if let Some(path) = path_in(&matches) {
         return Ok(Request::Plain(path));
     }
-    if let Some((schema, file)) = paths_in(&matches) {
-        return Ok(Request::Check(schema, file));
+    if let Some(asked) = check_in(&matches) {
+        let said = name_clash(None, asked.schema_alias);
+        return settled(alloc, said, Request::Check(asked));
     }
     if let Some(asked) = shrink_in(&matches) {
-        let said = clash(
-            asked.schema,
-            asked.file,
-            asked.output,
-            asked.certificate,
-            asked.merge,
-        );
+        let said = shrink_clash(&asked);
         return settled(alloc, said, Request::Shrink(asked));
     }
-    match verify_in(&matches) {
-        Some(asked) => {
-            let said = clash(
-                asked.schema,
-                asked.file,
-                asked.output,
-                asked.certificate,
-                asked.merge,
-            );
-            settled(alloc, said, Request::Verify(asked))
-        }
-        // clap accepts no such arguments.
-        None => Err(Refusal::Memory),
+    if let Some(asked) = verify_in(&matches) {
+        let said = verify_clash(&asked);
+        return settled(alloc, said, Request::Verify(asked));
     }
+    if is_presets(&matches) {
+        return Ok(Request::Presets);
+    }
+    // clap accepts no such arguments.
+    Err(Refusal::Memory)
 }

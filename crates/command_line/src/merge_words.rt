@@ -3,7 +3,8 @@
 ghost use Rattle.std.specs.Prelude.{
   ◌≡◌,
   ◌==◌,
-  Bool,
+  ◌∷◌,
+  [],
   IfOk,
   IfSome,
   Some,
@@ -12,43 +13,45 @@ ghost use Rattle.std.specs.Prelude.{
   get_or,
   length,
   map,
-  option_map,
   string_bytes,
-  true,
 };
 ghost use Rattle.clap.specs.Matches.{found_of, subcommand_name_of};
-ghost use Rattle.clap.specs.Simple.{app_of, new_app, subcommand_rows_of, with_rule};
-ghost use Rattle.clap.specs.Walk.{first_of, rows_of, rule_of};
+ghost use Rattle.clap.specs.Simple.{app_of, subcommand_rows_of};
+ghost use Rattle.clap.specs.Walk.{rows_of, rule_of};
 ghost use Rattle.clap.specs.declared.builder.command.Command.TheViews.{out-Command};
 ghost use Rattle.command_line.specs.Clap.{
+  HasGiven,
   HasValues,
   certificate_rule,
-  file_rule,
   in_sets_rule,
   merge_rule,
   merging_app,
-  naming_app,
   output_rule,
-  schema_rule,
+  reading_app,
   shrink_app,
   strict_rule,
-  values_in,
-  values_of,
   verify_app,
+  writing_app,
 };
 ghost use Rattle.command_line.specs.Commands.{
   Given,
+  TakesOptions,
   clash,
   has_empty_name,
   has_unknown_preset,
   is_preset,
   is_same_word,
   is_unknown_preset,
+  name_clash,
+  path_clash,
   pieces,
+  shrink_command,
+  verify_command,
 };
-ghost use Rattle.command_line.specs.steps.AskedMerges.{shrink_given, text_of, verify_given};
+ghost use Rattle.command_line.specs.steps.Options.{text_of};
+ghost use Rattle.command_line.specs.steps.AskedMerges.{merging_given, shrink_given, verify_given};
 
-use crate::command_words::{file, schema};
+use crate::command_words::{file, schema, schema_alias};
 use clap::{Arg, ArgAction, ArgMatches, Command};
 use std::alloc::{AllocError, Global};
 
@@ -83,6 +86,9 @@ pub struct ShrinkRequest<'p> {
     /// The names of the entity data types whose instances may be merged, or of presets, which begin
     /// with `@`. Commas separate them, and none is empty. `None` stands for the usual entities.
     pub merge: Option<&'p str>,
+    /// The names by which FILE may call the schema beside its own; commas separate them, and none
+    /// is empty.
+    pub schema_alias: Option<&'p str>,
     /// Whether an instance may be merged that stands alone in a SET or BAG.
     pub in_sets: bool,
     /// Whether a schema with unchecked parts is refused.
@@ -103,6 +109,9 @@ pub struct VerifyRequest<'p> {
     /// The names of the entity data types whose instances may be merged, or of presets, which begin
     /// with `@`. Commas separate them, and none is empty. `None` stands for the usual entities.
     pub merge: Option<&'p str>,
+    /// The names by which FILE may call the schema beside its own; commas separate them, and none
+    /// is empty.
+    pub schema_alias: Option<&'p str>,
     /// Whether an instance may be merged that stands alone in a SET or BAG.
     pub in_sets: bool,
 }
@@ -170,8 +179,7 @@ fn reading<'a>(
     about: &'a str,
     help: &'a str,
 ) -> Result<Command<'a>, AllocError>
-    ensures app { IfOk result (λ command.
-        app_of command ≡ with_rule (with_rule (new_app name.entry.now) schema_rule) file_rule) }
+    ensures app { IfOk result (λ command. app_of command ≡ reading_app name.entry.now) }
     ensures local { IfOk result (λ command. (out-Command command).has_globals ≡ false) }
 {
     Command::new(alloc, name)
@@ -188,31 +196,14 @@ fn writing<'a>(
     about: &'a str,
     help: &'a str,
 ) -> Result<Command<'a>, AllocError>
-    ensures app { IfOk result (λ command. app_of command
-        ≡ with_rule (with_rule (with_rule
-        (with_rule (new_app name.entry.now) schema_rule) file_rule)
-        output_rule) certificate_rule) }
+    ensures app { IfOk result (λ command. app_of command ≡ writing_app name.entry.now) }
     ensures local { IfOk result (λ command. (out-Command command).has_globals ≡ false) }
 {
     let command = reading(alloc, name, about, help)?;
     command.arg(output(alloc))?.arg(certificate(alloc))
 }
 
-// Returns a command with SCHEMA, FILE, OUT, CERT and `--merge`.
-fn naming<'a>(
-    alloc: Global,
-    name: &'a str,
-    about: &'a str,
-    help: &'a str,
-) -> Result<Command<'a>, AllocError>
-    ensures app { IfOk result (λ command. app_of command ≡ naming_app name.entry.now) }
-    ensures local { IfOk result (λ command. (out-Command command).has_globals ≡ false) }
-{
-    let command = writing(alloc, name, about, help)?;
-    command.arg(merge(alloc))
-}
-
-// Returns a command with SCHEMA, FILE, OUT, CERT, `--merge` and `--in-sets`.
+// Returns a command with SCHEMA, FILE, OUT, CERT, `--merge`, `--schema-alias` and `--in-sets`.
 fn merging<'a>(
     alloc: Global,
     name: &'a str,
@@ -222,8 +213,9 @@ fn merging<'a>(
     ensures app { IfOk result (λ command. app_of command ≡ merging_app name.entry.now) }
     ensures local { IfOk result (λ command. (out-Command command).has_globals ≡ false) }
 {
-    let command = naming(alloc, name, about, help)?;
-    command.arg(in_sets(alloc))
+    let command = writing(alloc, name, about, help)?;
+    let command = command.arg(merge(alloc))?;
+    command.arg(schema_alias(alloc))?.arg(in_sets(alloc))
 }
 
 // Returns the command `shrink`.
@@ -253,11 +245,11 @@ pub(crate) fn verify<'a>(alloc: Global) -> Result<Command<'a>, AllocError>
     )
 }
 
-// Returns the values of SCHEMA, FILE, OUT, CERT, `--merge` and `--in-sets`.
+// Returns the arguments of a command that has those of `verify`.
 fn values_in<'p>(found: &ArgMatches<'p>) -> Option<VerifyRequest<'p>>
-    ensures { (given : Given) → (takes_strict : Bool) → length given.operands ≡ 4
-        → values_in (rows_of (found_of found.now)) ≡ values_of takes_strict given
-        → IfSome result (λ asked. verify_given asked given.flags.strict ≡ given) }
+    ensures { (all : Given) → length all.operands ≡ 4
+        → HasGiven (rows_of (found_of found.now)) verify_command all
+        → IfSome result (λ asked. merging_given asked all.options.strict ≡ all) }
 {
     let schema = found.get_str("SCHEMA")?;
     let file = found.get_str("FILE")?;
@@ -269,13 +261,14 @@ fn values_in<'p>(found: &ArgMatches<'p>) -> Option<VerifyRequest<'p>>
         output,
         certificate,
         merge: found.get_str("merge"),
+        schema_alias: found.get_str("schema-alias"),
         in_sets: found.get_flag("in-sets"),
     })
 }
 
 // Returns the arguments of `shrink`: those that it shares with `verify`, and `strict`.
 fn shrinking<'p>(asked: VerifyRequest<'p>, strict: bool) -> ShrinkRequest<'p>
-    ensures { shrink_given result ≡ verify_given asked.entry strict }
+    ensures { shrink_given result ≡ merging_given asked.entry strict }
 {
     ShrinkRequest {
         schema: asked.schema,
@@ -283,6 +276,7 @@ fn shrinking<'p>(asked: VerifyRequest<'p>, strict: bool) -> ShrinkRequest<'p>
         output: asked.output,
         certificate: asked.certificate,
         merge: asked.merge,
+        schema_alias: asked.schema_alias,
         in_sets: asked.in_sets,
         strict,
     }
@@ -290,9 +284,9 @@ fn shrinking<'p>(asked: VerifyRequest<'p>, strict: bool) -> ShrinkRequest<'p>
 
 // Returns the arguments of `shrink`, if that is the command.
 pub(crate) fn shrink_in<'p>(matches: &ArgMatches<'p>) -> Option<ShrinkRequest<'p>>
-    ensures values { (given : Given) → length given.operands ≡ 4
-        → HasValues (subcommand_rows_of matches.now) (codes "shrink") (values_of true given)
-        → IfSome result (λ asked. shrink_given asked ≡ given) }
+    ensures values { (all : Given) → length all.operands ≡ 4
+        → HasValues (subcommand_rows_of matches.now) shrink_command all
+        → IfSome result (λ asked. shrink_given asked ≡ all) }
     ensures command { IfSome result
         (λ _. subcommand_name_of matches.now ≡ Some (codes "shrink")) }
 {
@@ -303,9 +297,10 @@ pub(crate) fn shrink_in<'p>(matches: &ArgMatches<'p>) -> Option<ShrinkRequest<'p
 
 // Returns the arguments of `verify`, if that is the command.
 pub(crate) fn verify_in<'p>(matches: &ArgMatches<'p>) -> Option<VerifyRequest<'p>>
-    ensures values { (given : Given) → length given.operands ≡ 4
-        → HasValues (subcommand_rows_of matches.now) (codes "verify") (values_of false given)
-        → IfSome result (λ asked. verify_given asked given.flags.strict ≡ given) }
+    ensures values { (all : Given) → length all.operands ≡ 4
+        → TakesOptions verify_command all.options
+        → HasValues (subcommand_rows_of matches.now) verify_command all
+        → IfSome result (λ asked. verify_given asked ≡ all) }
     ensures command { IfSome result
         (λ _. subcommand_name_of matches.now ≡ Some (codes "verify")) }
 {
@@ -366,16 +361,10 @@ fn has_unknown_preset(merge: Option<&str>) -> bool
     }
 }
 
-// Returns the message for arguments that are wrong although clap accepts them, if they are.
-pub(crate) fn clash(
-    schema: &str,
-    file: &str,
-    output: &str,
-    certificate: &str,
-    merge: Option<&str>,
-) -> Option<&'static str>
-    ensures { text_of result
-        ≡ clash schema.now file.now output.now certificate.now (text_of merge.entry) }
+// Returns the message if two of the paths of a command that merges are equal.
+fn path_clash(schema: &str, file: &str, output: &str, certificate: &str) -> Option<&'static str>
+    ensures { text_of result ≡
+        path_clash (schema.now ∷ file.now ∷ output.now ∷ certificate.now ∷ []) }
 {
     if output == certificate {
         return Some("error: OUT and CERT are the same\n");
@@ -389,13 +378,43 @@ pub(crate) fn clash(
     if file == certificate {
         return Some("error: FILE and CERT are the same\n");
     }
+    None
+}
+
+// Returns the message if a name is empty, or a name of `--merge` is that of an unknown preset.
+pub(crate) fn name_clash(merge: Option<&str>, schema_alias: Option<&str>) -> Option<&'static str>
+    ensures { text_of result ≡ name_clash (text_of merge.entry) (text_of schema_alias.entry) }
+{
     if has_empty_name(merge) {
+        return Some("error: a name in NAMES is empty\n");
+    }
+    if has_empty_name(schema_alias) {
         return Some("error: a name in NAMES is empty\n");
     }
     if has_unknown_preset(merge) {
         return Some("error: a preset in NAMES isn't one of @points, @styles, @geometry, @all\n");
     }
     None
+}
+
+// Returns the message for arguments of `shrink` that are wrong although clap accepts them.
+pub(crate) fn shrink_clash(asked: &ShrinkRequest<'_>) -> Option<&'static str>
+    ensures { text_of result ≡ clash (shrink_given asked.now) }
+{
+    match path_clash(asked.schema, asked.file, asked.output, asked.certificate) {
+        Some(said) => Some(said),
+        None => name_clash(asked.merge, asked.schema_alias),
+    }
+}
+
+// Returns the message for arguments of `verify` that are wrong although clap accepts them.
+pub(crate) fn verify_clash(asked: &VerifyRequest<'_>) -> Option<&'static str>
+    ensures { text_of result ≡ clash (verify_given asked.now) }
+{
+    match path_clash(asked.schema, asked.file, asked.output, asked.certificate) {
+        Some(said) => Some(said),
+        None => name_clash(asked.merge, asked.schema_alias),
+    }
 }
 
 // Returns the pieces of a text between its commas.
@@ -417,10 +436,11 @@ fn owned(alloc: Global, texts: &[&str]) -> Result<Vec<String>, AllocError>
     Ok(owned)
 }
 
-/// Returns the names after `--merge`: the pieces of the text between its commas, with blanks kept.
-pub fn merged_names(alloc: Global, merge: &str) -> Result<Vec<String>, AllocError>
-    ensures { IfOk result (λ names. map string_bytes names.items ≡ pieces merge.now) }
+/// Returns the names in NAMES of `--merge` or `--schema-alias`: the pieces of the text between its
+/// commas, with blanks kept.
+pub fn names_between_commas(alloc: Global, names: &str) -> Result<Vec<String>, AllocError>
+    ensures { IfOk result (λ parts. map string_bytes parts.items ≡ pieces names.now) }
 {
-    let parts = cut(alloc, merge)?;
+    let parts = cut(alloc, names)?;
     owned(alloc, &parts)
 }

@@ -12,8 +12,8 @@ mod texts;
 use commands::command::run_command;
 use devices::counted::Counted;
 use files::store::Store;
+use resources::Resources;
 use std::alloc::Global;
-use std::hash::RandomState;
 use std::io;
 use std::io::{Read, Write};
 
@@ -153,16 +153,15 @@ fn add_words(alloc: Global, owned: &mut Vec<String>, words: &[&str]) -> bool {
 
 // Runs a command line over a store, with this room for the outputs.
 fn run_in<'p, S: Store<'p>>(
-    alloc: Global,
-    keys: RandomState,
+    resources: Resources,
     words: &'p [String],
     store: &mut S,
     out_room: usize,
     err_room: usize,
 ) -> Ending {
-    let mut out = Counted::new(Paper::new(alloc, out_room));
-    let mut err = Counted::new(Paper::new(alloc, err_room));
-    let status = run_command(alloc, keys, words, store, &mut out, &mut err);
+    let mut out = Counted::new(Paper::new(resources.alloc, out_room));
+    let mut err = Counted::new(Paper::new(resources.alloc, err_room));
+    let status = run_command(resources, words, store, &mut out, &mut err);
     Ending {
         status,
         out: out.into_inner().bytes,
@@ -172,23 +171,22 @@ fn run_in<'p, S: Store<'p>>(
 
 // Runs a command line over the file, with this room for the outputs; `None` if memory runs out.
 fn run(
-    alloc: Global,
-    keys: RandomState,
+    resources: Resources,
     words: &[&str],
     file: &str,
     breaks: bool,
     out_room: usize,
     err_room: usize,
 ) -> Option<Ending> {
-    let mut owned = Vec::new(alloc);
-    if !add_words(alloc, &mut owned, words) {
+    let mut owned = Vec::new(resources.alloc);
+    if !add_words(resources.alloc, &mut owned, words) {
         return None;
     }
     let mut store = Shelf {
-        alloc,
+        alloc: resources.alloc,
         schema: b"",
         file: file.as_bytes(),
         breaks,
     };
-    Some(run_in(alloc, keys, &owned, &mut store, out_room, err_room))
+    Some(run_in(resources, &owned, &mut store, out_room, err_room))
 }

@@ -11,18 +11,21 @@ use Rattle.reports.specs.Faults.{unread}
 use Rattle.reports.specs.declared.fault.Fault.{Fault}
 use Rattle.reports.specs.declared.fault.Fault.TheVariants as faults
 use Rattle.reports.proofs.Failing.{schema_read, unread_before, unread_schema}
+use Rattle.schema_semantics.specs.Names.{Name}
 use Rattle.checking.specs.Checks.{Checks}
 use Rattle.checking.proofs.Answering.{gives, of-schema-source, unread-schema}
-use Rattle.command_line.specs.Commands.{AsksCheck}
+use Rattle.command_line.specs.Commands.{AsksCheck, Options, check_command, given_as}
 use Rattle.files.specs.steps.Reads.{DeviceFailsAs, IsBeyond, ReadsWhole}
+use Rattle.files.specs.Lines.{line_of}
 use Rattle.files.specs.Stores.{Stored}
 use Rattle.files.specs.declared.read.ReadFault.{ReadFault}
 use Rattle.files.specs.declared.read.ReadFault.TheVariants as reads
 use Rattle.files.specs.declared.fault.Role.TheVariants as roles
+use Rattle.files.specs.declared.fault.FileFault.TheVariants as file_faults
 use Rattle.command_line.specs.declared.command_words.Refusal.{Refusal}
 use Rattle.command_line.specs.declared.command_words.Refusal.TheVariants.{Memory}
 use Rattle.commands.specs.CommandLines.{IsDevices}
-use Rattle.commands.specs.Endings.{EndsAs, Exit, on_output}
+use Rattle.commands.specs.Endings.{EndsAs, Exit, IsUntouched, Prints, on_output}
 use Rattle.commands.specs.Faults.{fault_ending}
 use Rattle.commands.specs.Merges.{Writers}
 use Rattle.commands.specs.Runs.{Refuses, RunsCheck, check_ending}
@@ -41,35 +44,35 @@ pub check_fit : (outcome : Result Report Fault) → IsFit (check_ending outcome)
 check_fit (Ok report) = found_fit report.findings.items report.rule_findings.items
 check_fit (Err fault) = fault_fit fault
 
-pub check_says : (schema file : Stored) (exit : Exit)
-    → RunsCheck schema file exit → SaysAs exit
-check_says schema file exit r =
+pub check_says : (others : List Name) (schema file : Stored) (exit : Exit)
+    → RunsCheck others schema file exit → SaysAs exit
+check_says others schema file exit r =
     ends_say (check_ending r.outcome) exit (check_fit r.outcome) r.ends
 
 -- ---- the schema
 
 -- it isn't read to its end
-pub unread_check : (T : Type 0) (schema file : Stored) (exit : Exit) (e : ReadFault) (f : Fault)
+pub unread_check : (T : Type 0) (others : List Name) (schema file : Stored) (exit : Exit) (e : ReadFault) (f : Fault)
     → f ≡ unread roles.Schema e → (e ≡ reads.TooLarge → IsBeyond (2 ^ 40) schema.contents)
     → IfSome schema.fails (DeviceFailsAs {T = T} (Err e)) → EndsAs (fault_ending f) exit
-    → RunsCheck schema file exit
-unread_check T schema file exit e f is beyond told ends = record {
+    → RunsCheck others schema file exit
+unread_check T others schema file exit e f is beyond told ends = record {
   outcome = Err f;
-  checks = unread-schema schema.contents file.contents e f is beyond;
+  checks = unread-schema others schema.contents file.contents e f is beyond;
   schema_fails = unread_schema Report e f is T schema.fails told;
   file_fails = unread_before Report e f is file.fails;
   ends = ends;
 }
 
 -- it is, and this is answered to its text
-pub read_check : (schema file : Stored) (left : Option (List ℕ)) (text : List ℕ) (exit : Exit)
+pub read_check : (others : List Name) (schema file : Stored) (left : Option (List ℕ)) (text : List ℕ) (exit : Exit)
     (outcome : Result Report Fault) → ReadsWhole schema.contents left text
-    → IfSome schema.fails (λ each. false ≡ each) → Checks (Some text) file.contents outcome
+    → IfSome schema.fails (λ each. false ≡ each) → Checks others (Some text) file.contents outcome
     → is_device roles.Schema outcome ≡ false → IfSome file.fails (FileFailsAs outcome)
-    → EndsAs (check_ending outcome) exit → RunsCheck schema file exit
-read_check schema file left text exit outcome whole told checks fine file_told ends = record {
+    → EndsAs (check_ending outcome) exit → RunsCheck others schema file exit
+read_check others schema file left text exit outcome whole told checks fine file_told ends = record {
   outcome = outcome;
-  checks = of-schema-source schema.contents file.contents text (gives schema.contents left text whole) outcome checks;
+  checks = of-schema-source others schema.contents file.contents text (gives schema.contents left text whole) outcome checks;
   schema_fails = schema_read schema.fails outcome fine told;
   file_fails = file_told;
   ends = ends;
@@ -95,62 +98,62 @@ abbrev pub IsOfSource : Result Report Fault → Type 0
 IsOfSource outcome = (is_device roles.Schema outcome ≡ true) ⊎ (is_device roles.File outcome ≡ true)
 
 -- a device's status is wanted for such an answer alone
-check_wanted : (schema file : Option (List ℕ)) (outcome : Result Report Fault) → Checks schema file outcome
+check_wanted : (others : List Name) (schema file : Option (List ℕ)) (outcome : Result Report Fault) → Checks others schema file outcome
     → IsOfSource outcome ⊎ (wanted_of (check_ending outcome) ≡ 4 → ⊥)
-check_wanted schema file (Ok report) h = inr (found_no_device report.findings.items report.rule_findings.items)
-check_wanted schema file (Err (faults.Schema (schemas.Text kind place))) h = inr (λ no. omega (arith, no))
-check_wanted schema file (Err (faults.Schema (schemas.Name kind name))) h = inr (λ no. omega (arith, no))
-check_wanted schema file (Err (faults.Schema schemas.Memory)) h = inr (λ no. omega (arith, no))
-check_wanted schema file (Err (faults.Text role kind place)) h = inr (λ no. omega (arith, no))
-check_wanted schema file (Err (faults.Unchecked parts)) h = absurd h
-check_wanted schema file (Err (faults.Findings report)) h = absurd h
-check_wanted schema file (Err (faults.Refused role findings rules)) h = absurd h
-check_wanted schema file (Err (faults.Certificate refusal)) h = absurd h
-check_wanted schema file (Err (faults.Device roles.Schema written)) h = inl (inl refl)
-check_wanted schema file (Err (faults.Device roles.File written)) h = inl (inr refl)
-check_wanted schema file (Err (faults.Device roles.Output written)) h = absurd h
-check_wanted schema file (Err (faults.Device roles.Certificate written)) h = absurd h
-check_wanted schema file (Err faults.Memory) h = inr (λ no. omega (arith, no))
+check_wanted others schema file (Ok report) h = inr (found_no_device report.findings.items report.rule_findings.items)
+check_wanted others schema file (Err (faults.Schema (schemas.Text kind place))) h = inr (λ no. omega (arith, no))
+check_wanted others schema file (Err (faults.Schema (schemas.Name kind name))) h = inr (λ no. omega (arith, no))
+check_wanted others schema file (Err (faults.Schema schemas.Memory)) h = inr (λ no. omega (arith, no))
+check_wanted others schema file (Err (faults.Text role kind place)) h = inr (λ no. omega (arith, no))
+check_wanted others schema file (Err (faults.Unchecked parts)) h = absurd h
+check_wanted others schema file (Err (faults.Findings report)) h = absurd h
+check_wanted others schema file (Err (faults.Refused role findings rules)) h = absurd h
+check_wanted others schema file (Err (faults.Certificate refusal)) h = absurd h
+check_wanted others schema file (Err (faults.Device roles.Schema written)) h = inl (inl refl)
+check_wanted others schema file (Err (faults.Device roles.File written)) h = inl (inr refl)
+check_wanted others schema file (Err (faults.Device roles.Output written)) h = absurd h
+check_wanted others schema file (Err (faults.Device roles.Certificate written)) h = absurd h
+check_wanted others schema file (Err faults.Memory) h = inr (λ no. omega (arith, no))
 
-pub check_devices : (schema file : Stored) (exit : Exit)
-    → (r : RunsCheck schema file exit) → exit.status ≡ 4 → exit.out.before.has_failed ≡ false
+pub check_devices : (others : List Name) (schema file : Stored) (exit : Exit)
+    → (r : RunsCheck others schema file exit) → exit.status ≡ 4 → exit.out.before.has_failed ≡ false
     → exit.err.before.has_failed ≡ false → IsOfSource r.outcome ⊎ OneFailed exit
-check_devices schema file exit r is fresh clean =
+check_devices others schema file exit r is fresh clean =
     ends_by_devices (IsOfSource r.outcome) (check_ending r.outcome)
-    exit r.ends (check_wanted schema.contents file.contents r.outcome r.checks) is fresh clean
+    exit r.ends (check_wanted others schema.contents file.contents r.outcome r.checks) is fresh clean
 
 -- where the status is a device's, a source has failed, by the answer, or an output
-pub one_failed : (schema file : Option (List ℕ)) (outcome : Result Report Fault) (exit : Exit)
-    (s f : Bool) → Checks schema file outcome → s ≡ is_device roles.Schema outcome → f ≡ is_device roles.File outcome
+pub one_failed : (others : List Name) (schema file : Option (List ℕ)) (outcome : Result Report Fault) (exit : Exit)
+    (s f : Bool) → Checks others schema file outcome → s ≡ is_device roles.Schema outcome → f ≡ is_device roles.File outcome
     → EndsAs (check_ending outcome) exit → exit.status ≡ 4 → exit.out.before.has_failed ≡ false
     → exit.err.before.has_failed ≡ false → (s ≡ true) ⊎ (f ≡ true) ⊎ OneFailed exit
-one_failed schema file outcome exit s f checks es ef ends is fresh clean =
+one_failed others schema file outcome exit s f checks es ef ends is fresh clean =
     elim (ends_by_devices (IsOfSource outcome) (check_ending outcome) exit ends
-    (check_wanted schema file outcome checks) is fresh clean) [
+    (check_wanted others schema file outcome checks) is fresh clean) [
       | inl (inl e) ↦ inl (es ∙ e)
       | inl (inr e) ↦ inr (inl (ef ∙ e))
       | inr failed ↦ inr (inr failed)
     ]
 
-pub check_device : (writers : Writers) (words : List (List ℕ)) (files : List ℕ → Stored)
-    (schema file : List ℕ)
-    (exit : Exit) → AsksCheck words schema file
-    → RunsCheck (files schema) (files file) exit → exit.status ≡ 4
+pub check_device : (writers : Writers) (words : List (List ℕ)) (files : List ℕ → Stored) (others : List Name)
+    (schema file : List ℕ) (options : Options)
+    (exit : Exit) → AsksCheck words schema file options
+    → RunsCheck others (files schema) (files file) exit → exit.status ≡ 4
     → IsDevices writers words files exit
-check_device writers words files schema file exit asks r is = λ fresh clean.
-    elim (check_devices (files schema) (files file) exit r is fresh clean) [
-      | inl (inl met) ↦ inr (inr (inr (inl (
-        schema,
-        file,
+check_device writers words files others schema file options exit asks r is = λ fresh clean.
+    elim (check_devices others (files schema) (files file) exit r is fresh clean) [
+      | inl (inl met) ↦ inr (inr (
+        check_command,
+        given_as (schema ∷ file ∷ []) options,
         asks,
         inl (schema_can Report r.outcome (files schema) met r.schema_fails),
-      ))))
-      | inl (inr met) ↦ inr (inr (inr (inl (
-        schema,
-        file,
+      ))
+      | inl (inr met) ↦ inr (inr (
+        check_command,
+        given_as (schema ∷ file ∷ []) options,
         asks,
         inr (file_can Report r.outcome (files file) met r.file_fails),
-      ))))
+      ))
       | inr (inl failed) ↦ inl failed
       | inr (inr failed) ↦ inr (inl failed)
     ]
@@ -172,9 +175,9 @@ schema_wanted (Err (faults.Certificate refusal)) is = absurd (true≢false (sym 
 schema_wanted (Err (faults.Device role written)) is = inl refl
 schema_wanted (Err faults.Memory) is = inr refl
 
-pub schema_failed : (schema file : Stored) (exit : Exit)
-    → RunsCheck schema file exit → schema.fails ≡ Some true → (exit.status ≡ 4) ⊎ (exit.status ≡ 5)
-schema_failed schema file exit r is =
+pub schema_failed : (others : List Name) (schema file : Stored) (exit : Exit)
+    → RunsCheck others schema file exit → schema.fails ≡ Some true → (exit.status ≡ 4) ⊎ (exit.status ≡ 5)
+schema_failed others schema file exit r is =
     ends_among DeviceOrMemory (check_ending r.outcome) exit r.ends
     (schema_wanted r.outcome (subst (λ o. IfSome o (SchemaFailsAs r.outcome)) is r.schema_fails)) (inl refl)
 
@@ -182,38 +185,37 @@ schema_failed schema file exit r is =
 abbrev TextOrDevice : ℕ → Type 0
 TextOrDevice status = (status ≡ 2) ⊎ (status ≡ 4) ⊎ (status ≡ 5)
 
-file_wanted : (schema file : Option (List ℕ)) (outcome : Result Report Fault) → Checks schema file outcome
+file_wanted : (others : List Name) (schema file : Option (List ℕ)) (outcome : Result Report Fault) → Checks others schema file outcome
     → FileFailsAs outcome true → TextOrDevice (wanted_of (check_ending outcome))
-file_wanted schema file (Ok report) h is = absurd (true≢false (sym is))
-file_wanted schema file (Err (faults.Schema (schemas.Text kind place))) h is = inl refl
-file_wanted schema file (Err (faults.Schema (schemas.Name kind name))) h is = inl refl
-file_wanted schema file (Err (faults.Schema schemas.Memory)) h is = inr (inr refl)
-file_wanted schema file (Err (faults.Text role kind place)) h is = absurd (true≢false (sym is))
-file_wanted schema file (Err (faults.Unchecked parts)) h is = absurd h
-file_wanted schema file (Err (faults.Findings report)) h is = absurd h
-file_wanted schema file (Err (faults.Refused role findings rules)) h is = absurd h
-file_wanted schema file (Err (faults.Certificate refusal)) h is = absurd h
-file_wanted schema file (Err (faults.Device role written)) h is = inr (inl refl)
-file_wanted schema file (Err faults.Memory) h is = inr (inr refl)
+file_wanted others schema file (Ok report) h is = absurd (true≢false (sym is))
+file_wanted others schema file (Err (faults.Schema (schemas.Text kind place))) h is = inl refl
+file_wanted others schema file (Err (faults.Schema (schemas.Name kind name))) h is = inl refl
+file_wanted others schema file (Err (faults.Schema schemas.Memory)) h is = inr (inr refl)
+file_wanted others schema file (Err (faults.Text role kind place)) h is = absurd (true≢false (sym is))
+file_wanted others schema file (Err (faults.Unchecked parts)) h is = absurd h
+file_wanted others schema file (Err (faults.Findings report)) h is = absurd h
+file_wanted others schema file (Err (faults.Refused role findings rules)) h is = absurd h
+file_wanted others schema file (Err (faults.Certificate refusal)) h is = absurd h
+file_wanted others schema file (Err (faults.Device role written)) h is = inr (inl refl)
+file_wanted others schema file (Err faults.Memory) h is = inr (inr refl)
 
-pub checked_failed : (schema file : Stored) (exit : Exit)
-    → RunsCheck schema file exit → file.fails ≡ Some true
+pub checked_failed : (others : List Name) (schema file : Stored) (exit : Exit)
+    → RunsCheck others schema file exit → file.fails ≡ Some true
     → (exit.status ≡ 2) ⊎ (exit.status ≡ 4) ⊎ (exit.status ≡ 5)
-checked_failed schema file exit r is =
+checked_failed others schema file exit r is =
     ends_among TextOrDevice (check_ending r.outcome) exit r.ends
-    (file_wanted schema.contents file.contents r.outcome r.checks (subst (λ o. IfSome o (FileFailsAs r.outcome)) is r.file_fails)) (inr (inl refl))
+    (file_wanted others schema.contents file.contents r.outcome r.checks (subst (λ o. IfSome o (FileFailsAs r.outcome)) is r.file_fails)) (inr (inl refl))
 
 -- ---- what was refused
 
-pub memory_checks : (refusal : Refusal) (schema file : Stored) (exit : Exit)
-    → refusal ≡ Memory → Refuses refusal exit
-    → RunsCheck schema file exit
-memory_checks refusal schema file exit is refuses = record {
+pub memory_checks : (others : List Name) (schema file : Stored) (exit : Exit) → IsUntouched exit.out
+    → Prints exit.err (line_of file_faults.Memory) 5 exit.status → RunsCheck others schema file exit
+memory_checks others schema file exit same prints = record {
   outcome = Err faults.Memory;
   checks = tt;
   schema_fails = no_schema_told schema.fails;
   file_fails = no_file_told file.fails;
-  ends = subst (λ m. Refuses m exit) is refuses;
+  ends = (same, prints);
 }
   where
     no_schema_told : (o : Option Bool) → IfSome o (SchemaFailsAs {T = Report} (Err faults.Memory))
@@ -223,3 +225,9 @@ memory_checks refusal schema file exit is refuses = record {
     no_file_told : (o : Option Bool) → IfSome o (FileFailsAs {T = Report} (Err faults.Memory))
     no_file_told None = tt
     no_file_told (Some each) = tt
+
+pub refused_checks : (refusal : Refusal) (others : List Name) (schema file : Stored) (exit : Exit)
+    → refusal ≡ Memory → Refuses refusal exit → RunsCheck others schema file exit
+refused_checks refusal others schema file exit is refuses =
+    let r = subst (λ m. Refuses m exit) is refuses in
+    memory_checks others schema file exit r.0 r.1

@@ -1,14 +1,11 @@
 -- How runs end: what their statuses say of the outputs.
 use Rattle.std.proofs.Common.{◌≡◌, Bool, true, false, List, ℕ, Option, None, Some, Result, Ok, Err, inl, inr, refl, sym, ap, subst, ◌∙◌, true≢false}
-use Rattle.std.specs.Prelude.{◌⊎◌, MatchBool, MatchResult, is_err}
+use Rattle.std.specs.Prelude.{◌⊎◌, MatchBool}
 use Rattle.std.specs.Io.KnownBytes.{Appends, Keeps}
-use Rattle.devices.specs.declared.device.WriteFault.{WriteFault}
-use Rattle.files.specs.Faults.{write_fault}
 use Rattle.files.specs.Lines.{line_of}
-use Rattle.files.specs.declared.fault.Role.TheVariants as roles
 use Rattle.files.specs.declared.fault.FileFault.{FileFault}
 use Rattle.files.specs.declared.fault.FileFault.TheVariants as faults
-use Rattle.commands.specs.Endings.{AppendsFront, Closes, Ending, Ends, EndsAs, Exit, IsUntouched, Output, OutputState, Prints, Tells, on_both, on_error, on_output}
+use Rattle.commands.specs.Endings.{AppendsFront, Ending, Ends, EndsAs, Exit, IsUntouched, Output, OutputState, Prints, Tells, on_both, on_error, on_output}
 use Rattle.commands.specs.Statuses.{IsStatus, fault_status}
 
 -- ---- one output
@@ -114,81 +111,70 @@ pub record SaysAs (exit : Exit) : Type 0 where
 abbrev pub OneFailed : Exit → Type 0
 OneFailed exit = (exit.out.after.has_failed ≡ true) ⊎ (exit.err.after.has_failed ≡ true)
 
--- a line or none: the status is the one that is wanted, or a device's, where the error output fails or where it has
-close_status : (line : Option (List ℕ)) (wanted : ℕ) (err : Output) (status : ℕ) → Closes line wanted err status
-    → (status ≡ wanted) ⊎ (status ≡ 4)
-close_status None wanted err status c = inl c.0
-close_status (Some line) wanted err status c = status_printed err line wanted status c
+told_status : (wanted : ℕ) (exit : Exit) → (wanted ≡ 0) ⊎ (wanted ≡ 1) → (exit.status ≡ wanted) ⊎ (exit.status ≡ 4)
+    → IsStatus exit.status × Unwritten exit.out exit.status
+told_status wanted exit (inl zero) (inl e) = (inl (e ∙ zero), inl (e ∙ zero))
+told_status wanted exit (inr one) (inl e) = (inr (inl (e ∙ one)), inr (inl (e ∙ one)))
+told_status wanted exit fit (inr e) = (inr (inr (inr (inr (inl e)))), inr (inr (inl e)))
 
-close_failing : (line : Option (List ℕ)) (wanted : ℕ) (err : Output) (status : ℕ) → Closes line wanted err status
-    → err.before.has_failed ≡ false → err.after.has_failed ≡ true → status ≡ 4
-close_failing None wanted err status c fresh fails = failed_twice err c.1 fresh fails
-close_failing (Some line) wanted err status c fresh fails = failure_printed err line wanted status c fresh fails
+-- a text alone
+text_says : (text : List ℕ) (wanted : ℕ) (exit : Exit) → (wanted ≡ 0) ⊎ (wanted ≡ 1)
+    → Prints exit.out text wanted exit.status → IsUntouched exit.err → SaysAs exit
+text_says text wanted exit fit p same =
+    let s = told_status wanted exit fit (status_printed exit.out text wanted exit.status p) in
+    record {
+      is_status = s.0;
+      unwritten = s.1;
+      out_failed = failure_printed exit.out text wanted exit.status p;
+      err_failed = λ fresh fails. failed_twice exit.err same fresh fails;
+    }
 
-close_device : (line : Option (List ℕ)) (wanted : ℕ) (err : Output) (status : ℕ) → Closes line wanted err status
-    → (wanted ≡ 4 → ⊥) → status ≡ 4 → err.before.has_failed ≡ false → err.after.has_failed ≡ true
-close_device None wanted err status c other is fresh = absurd (other (sym c.0 ∙ is))
-close_device (Some line) wanted err status c other is fresh = device_printed err line wanted status c other is fresh
-
--- a text and perhaps a line
-module _ (text : List ℕ) (line : Option (List ℕ)) (wanted : ℕ) (exit : Exit) where
-  abbrev Behind : Result Unit WriteFault → Type 0
-  Behind sent = MatchResult sent (λ _. Closes line wanted exit.err exit.status)
-      (λ fault. Ends (Err (write_fault roles.Output fault)) exit.err exit.status)
-
-  is_device : (fault : WriteFault) → Ends (Err (write_fault roles.Output fault)) exit.err exit.status
-      → exit.status ≡ 4
-  is_device fault ends = four exit.status
-      (status_printed exit.err (line_of (write_fault roles.Output fault)) 4 exit.status ends)
-
-  told_status : (wanted ≡ 0) ⊎ (wanted ≡ 1) → (exit.status ≡ wanted) ⊎ (exit.status ≡ 4)
-      → IsStatus exit.status × Unwritten exit.out exit.status
-  told_status (inl zero) (inl e) = (inl (e ∙ zero), inl (e ∙ zero))
-  told_status (inr one) (inl e) = (inr (inl (e ∙ one)), inr (inl (e ∙ one)))
-  told_status fit (inr e) = (inr (inr (inr (inr (inl e)))), inr (inr (inl e)))
+-- a text, and a line after it
+module _ (text line : List ℕ) (wanted : ℕ) (exit : Exit) where
+  abbrev Behind : Bool → Type 0
+  Behind fails = MatchBool fails
+      ((exit.status ≡ 4) × AppendsFront exit.out.before.held exit.out.after.held text × IsUntouched exit.err)
+      (Appends exit.out.before.held exit.out.after.held text × Prints exit.err line wanted exit.status)
 
   tells_say : (wanted ≡ 0) ⊎ (wanted ≡ 1) → Tells text line wanted exit → SaysAs exit
-  tells_say fit t = go t.sent t.output_fails t.ends
+  tells_say fit t = go t.fails t.told t.sent
     where
-      go : (sent : Result Unit WriteFault)
-          → (exit.out.before.has_failed ≡ false → exit.out.after.has_failed ≡ is_err sent) → Behind sent
+      go : (fails : Bool) → (exit.out.before.has_failed ≡ false → exit.out.after.has_failed ≡ fails) → Behind fails
           → SaysAs exit
-      go (Ok x) told ends =
-          let s = told_status fit (close_status line wanted exit.err exit.status ends) in
+      go false told ends =
+          let s = told_status wanted exit fit (status_printed exit.err line wanted exit.status ends.1) in
           record {
             is_status = s.0;
             unwritten = s.1;
             out_failed = (λ fresh fails. absurd (true≢false (sym fails ∙ told fresh)));
-            err_failed = close_failing line wanted exit.err exit.status ends;
+            err_failed = failure_printed exit.err line wanted exit.status ends.1;
           }
-      go (Err fault) told ends =
-          let device = is_device fault ends in
-          record {
-            is_status = inr (inr (inr (inr (inl device))));
-            unwritten = inr (inr (inl device));
-            out_failed = (λ fresh fails. device);
-            err_failed = (λ fresh fails. device);
-          }
+      go true told ends = record {
+        is_status = inr (inr (inr (inr (inl ends.0))));
+        unwritten = inr (inr (inl ends.0));
+        out_failed = (λ fresh fails. ends.0);
+        err_failed = (λ fresh fails. ends.0);
+      }
 
   tells_in : Tells text line wanted exit → (exit.status ≡ wanted) ⊎ (exit.status ≡ 4)
-  tells_in t = go t.sent t.ends
+  tells_in t = go t.fails t.sent
     where
-      go : (sent : Result Unit WriteFault) → Behind sent → (exit.status ≡ wanted) ⊎ (exit.status ≡ 4)
-      go (Ok x) ends = close_status line wanted exit.err exit.status ends
-      go (Err fault) ends = inr (is_device fault ends)
+      go : (fails : Bool) → Behind fails → (exit.status ≡ wanted) ⊎ (exit.status ≡ 4)
+      go false ends = status_printed exit.err line wanted exit.status ends.1
+      go true ends = inr ends.0
 
   tells_device : (wanted ≡ 4 → ⊥) → Tells text line wanted exit → exit.status ≡ 4
       → exit.out.before.has_failed ≡ false → exit.err.before.has_failed ≡ false → OneFailed exit
-  tells_device other t is fresh clean = go t.sent (t.output_fails fresh) t.ends
+  tells_device other t is fresh clean = go t.fails (t.told fresh) t.sent
     where
-      go : (sent : Result Unit WriteFault) → exit.out.after.has_failed ≡ is_err sent → Behind sent → OneFailed exit
-      go (Ok x) told ends = inr (close_device line wanted exit.err exit.status ends other is clean)
-      go (Err fault) told ends = inl told
+      go : (fails : Bool) → exit.out.after.has_failed ≡ fails → Behind fails → OneFailed exit
+      go false told ends = inr (device_printed exit.err line wanted exit.status ends.1 other is clean)
+      go true told ends = inl told
 
 -- what is said where a run ends so
 pub ends_say : (e : Ending) (exit : Exit) → IsFit e → EndsAs e exit → SaysAs exit
-ends_say (on_output text wanted) exit fit ends = tells_say text None wanted exit fit ends
-ends_say (on_both text line wanted) exit fit ends = tells_say text (Some line) wanted exit fit ends
+ends_say (on_output text wanted) exit fit ends = text_says text wanted exit fit ends.0 ends.1
+ends_say (on_both text line wanted) exit fit ends = tells_say text line wanted exit fit ends
 ends_say (on_error line wanted) exit fit ends = record {
   is_status = by (status_printed exit.err line wanted exit.status ends.1);
   unwritten = inr (inr (inr (keeps_same exit.out ends.0)));
@@ -202,17 +188,17 @@ ends_say (on_error line wanted) exit fit ends = record {
 
 -- the status is the one that is wanted, or a device's
 pub ends_in : (e : Ending) (exit : Exit) → EndsAs e exit → (exit.status ≡ wanted_of e) ⊎ (exit.status ≡ 4)
-ends_in (on_output text wanted) exit ends = tells_in text None wanted exit ends
-ends_in (on_both text line wanted) exit ends = tells_in text (Some line) wanted exit ends
+ends_in (on_output text wanted) exit ends = status_printed exit.out text wanted exit.status ends.0
+ends_in (on_both text line wanted) exit ends = tells_in text line wanted exit ends
 ends_in (on_error line wanted) exit ends = status_printed exit.err line wanted exit.status ends.1
 
 -- a device's, where another is wanted, says that an output has failed
 pub ends_device : (e : Ending) (exit : Exit) → EndsAs e exit → (wanted_of e ≡ 4 → ⊥) → exit.status ≡ 4
     → exit.out.before.has_failed ≡ false → exit.err.before.has_failed ≡ false → OneFailed exit
 ends_device (on_output text wanted) exit ends other is fresh clean =
-    tells_device text None wanted exit other ends is fresh clean
+    inl (device_printed exit.out text wanted exit.status ends.0 other is fresh)
 ends_device (on_both text line wanted) exit ends other is fresh clean =
-    tells_device text (Some line) wanted exit other ends is fresh clean
+    tells_device text line wanted exit other ends is fresh clean
 ends_device (on_error line wanted) exit ends other is fresh clean =
     inr (device_printed exit.err line wanted exit.status ends.1 other is clean)
 

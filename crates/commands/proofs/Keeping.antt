@@ -3,7 +3,9 @@ use Rattle.std.proofs.Common.{◌≡◌, ◌∙◌, Bool, false, List, [], ℕ, 
 use Rattle.conformance.specs.Choices.{Choice}
 use Rattle.command_line.specs.declared.command_words.Request.{Request}
 use Rattle.files.specs.Stores.{HoldsWritten, Stored, file_seen}
-use Rattle.commands.specs.CommandLines.{Does, written_at}
+use Rattle.schema_semantics.specs.Names.{Name}
+use Rattle.commands.specs.CommandLines.{written_at}
+use Rattle.commands.specs.steps.ComputedRequests.{Does}
 use Rattle.commands.specs.Endings.{Exit, output_seen}
 use Rattle.commands.specs.Merges.{MakesSmaller, RunsShrink, Writers, writers_of}
 use Rattle.commands.specs.Runs.{RunsCheck}
@@ -80,8 +82,9 @@ done_as writers request is files holds exit same does =
     subst (λ asked. Does writers asked files holds exit) same does
 
 -- a check of two files that these are
-pub checks_as : (s s' f f' : Stored) (exit : Exit) → s ≡ s' → f ≡ f'
-    → RunsCheck s f exit → RunsCheck s' f' exit
-checks_as s s' f f' exit schema file runs =
-    subst (λ it. RunsCheck s' it exit) file
-    (subst (λ it. RunsCheck it f exit) schema runs)
+pub checks_as : (others others' : List Name) (s s' f f' : Stored) (exit : Exit) → others ≡ others' → s ≡ s' → f ≡ f'
+    → RunsCheck others s f exit → RunsCheck others' s' f' exit
+checks_as others others' s s' f f' exit names schema file runs =
+    subst (λ it. RunsCheck others' s' it exit) file
+    (subst (λ it. RunsCheck others' it f exit) schema
+    (subst (λ it. RunsCheck it s f exit) names runs))

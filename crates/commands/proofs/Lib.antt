@@ -2,11 +2,14 @@ pub mod Failing
 pub mod Answering
 pub mod Endings
 pub mod FaultEndings
+pub mod Blaming
 pub mod PlainRuns
 pub mod CheckRuns
 pub mod MergeRuns
 pub mod VerifyRuns
-pub mod Words
+pub mod Refused
+pub mod Carried
+pub mod Requested
 pub mod Running
 pub mod Opening
 pub mod Keeping

@@ -1,7 +1,6 @@
 -- What a run comes to that merges a file.
 use Rattle.std.proofs.Common.{◌≡◌, ◌∙◌, Bool, true, false, List, [], ℕ, Option, None, Some, Result, Ok, Err, IfSome, inl, inr, refl, ap, subst, sym, arith}
-use Rattle.std.specs.Prelude.{◌⊎◌, ◌^◌, unwrap_or}
-use Rattle.std.proofs.KnownBytes.{Appends-nil}
+use Rattle.std.specs.Prelude.{◌⊎◌, ◌^◌}
 use Rattle.conformance.specs.Choices.{Choice}
 use Rattle.files.specs.steps.Reads.{DeviceFailsAs, IsBeyond, ReadsWhole}
 use Rattle.files.specs.Stores.{Stored}
@@ -10,6 +9,7 @@ use Rattle.files.specs.declared.read.ReadFault.TheVariants as reads
 use Rattle.files.specs.declared.fault.Role.{Role}
 use Rattle.files.specs.declared.fault.Role.TheVariants as roles
 use Rattle.files.specs.declared.fault.FileFault.TheVariants as file_faults
+use Rattle.command_line.specs.Commands.{AsksShrink, Options, four, shrink_command}
 use Rattle.command_line.specs.declared.command_words.Refusal.{Refusal}
 use Rattle.command_line.specs.declared.command_words.Refusal.TheVariants as refusals
 use Rattle.reports.specs.Devices.{FileFailsAs, SchemaFailsAs, is_device}
@@ -19,8 +19,8 @@ use Rattle.reports.specs.declared.fault.Fault.TheVariants.{Memory}
 use Rattle.reports.proofs.Failing.{schema_read, unread_before, unread_other, unread_schema}
 use Rattle.shrinking.specs.Shrinking.{Shrinks, Written}
 use Rattle.shrinking.specs.declared.summary.Summary.{Summary}
-use Rattle.shrinking.proofs.Answering.{of_source, schema_not_given, unwritten}
-use Rattle.commands.specs.CommandLines.{CanFail, HasFailedWriter, IsDevices, RunsMerged, written_at}
+use Rattle.shrinking.proofs.Answering.{of_source, schema_not_given, unshrunk}
+use Rattle.commands.specs.CommandLines.{CanFail, HasFailedWriter, IsDevices, written_at}
 use Rattle.commands.specs.Endings.{EndsAs, Exit, IsUntouched, Output, OutputState, Prints}
 use Rattle.files.specs.Lines.{line_of}
 use Rattle.commands.specs.Faults.{fault_ending}
@@ -113,45 +113,24 @@ shrink_wanted : (outcome : Result Summary Fault)
 shrink_wanted (Ok m) = inr (λ never. omega (arith, never))
 shrink_wanted (Err fault) = device_wanted Summary fault
 
-pub shrink_device : (writers : Writers) (words : List (List ℕ))
-    (files : List ℕ → Stored) (holds : List ℕ → Option (List ℕ)) (exit : Exit)
-    → RunsMerged writers words files holds exit → exit.status ≡ 4
-    → IsDevices writers words files exit
-shrink_device writers words files holds exit r is = λ fresh clean.
-    elim (ends_by_devices (IsOfDevice r.makes.runs.outcome) (shrink_ending r.makes.runs.outcome) exit r.makes.runs.ends (shrink_wanted r.makes.runs.outcome) is fresh clean) [
-      | inl met ↦ inr (inr (inr (inr (inr (
-        r.schema,
-        r.file,
-        r.output,
-        r.certificate,
-        r.merge,
-        r.flags,
-        r.asks,
-        role_can writers (asked_choice r.merge r.flags.in_sets) r.flags.strict (files r.schema) (files r.file)
-            (written_at files holds r.output) (written_at files holds r.certificate) exit r.makes met.0 met.1,
-      )))))
+pub shrink_device : (writers : Writers) (words : List (List ℕ)) (files : List ℕ → Stored)
+    (holds : List ℕ → Option (List ℕ)) (s f o c : List ℕ) (options : Options) (exit : Exit)
+    → AsksShrink words s f o c options
+    → MakesSmaller writers (asked_choice options) options.strict (files s) (files f) (written_at files holds o)
+    (written_at files holds c) exit → exit.status ≡ 4 → IsDevices writers words files exit
+shrink_device writers words files holds s f o c options exit asks makes is = λ fresh clean.
+    elim (ends_by_devices (IsOfDevice makes.runs.outcome) (shrink_ending makes.runs.outcome) exit makes.runs.ends
+    (shrink_wanted makes.runs.outcome) is fresh clean) [
+      | inl met ↦ inr (inr (
+        shrink_command,
+        four s f o c options,
+        asks,
+        role_can writers (asked_choice options) options.strict (files s) (files f) (written_at files holds o)
+            (written_at files holds c) exit makes met.0 met.1,
+      ))
       | inr (inl failed) ↦ inl failed
       | inr (inr failed) ↦ inr (inl failed)
     ]
-
-is_text : (o : Option (List ℕ)) → IfSome o (λ text. text ≡ unwrap_or o [])
-is_text None = tt
-is_text (Some text) = refl
-
--- nothing was merged for want of memory
-unshrunk : (choice : Choice) (strict : Bool) (schema file output certificate : Option (List ℕ))
-    → Shrinks choice strict schema file (unwritten output) (unwritten certificate) (Err Memory)
-unshrunk choice strict schema file output certificate = record {
-  text = unwrap_or schema [];
-  bytes = unwrap_or file [];
-  output = [];
-  certificate = [];
-  text_is = is_text schema;
-  bytes_are = is_text file;
-  answers = (refl, refl);
-  written = Appends-nil output;
-  certified = Appends-nil certificate;
-}
 
 -- nothing written
 abbrev nothing : Output

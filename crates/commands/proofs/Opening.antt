@@ -1,15 +1,18 @@
 -- Which files are opened.
-use Rattle.std.proofs.Common.{◌≡◌, List, [], ◌∷◌, ◌++◌, ℕ, Option, None, Some, inl, inr, ap, subst, ◌∙◌}
-use Rattle.std.proofs.lemmas.List.{append_assoc}
-use Rattle.command_line.specs.Commands.{flags_of}
-use Rattle.command_line.specs.steps.AskedMerges.{text_of}
+use Rattle.std.proofs.Common.{◌≡◌, List, [], ◌∷◌, ◌++◌, ℕ, Option, None, Some, inl, inr, ap, subst, sym, ◌∙◌}
+use Rattle.std.proofs.lemmas.List.{append-nil, append_assoc}
 use Rattle.command_line.specs.Requests.{AskFor}
 use Rattle.command_line.specs.declared.command_words.Request.{Request}
-use Rattle.command_line.specs.declared.command_words.Request.TheVariants as requests
 use Rattle.files.specs.Stores.{Access, Opens}
-use Rattle.commands.specs.CommandLines.{OpensAsked, check_opens, plain_opens, shrink_opens, verify_opens}
+use Rattle.commands.specs.CommandLines.{OpensAsked}
 use Rattle.commands.specs.Endings.{Output}
-use Rattle.commands.specs.steps.ComputedRequests.{OpensUnlessMemory, opened_by, proof_opens, smaller_opens}
+use Rattle.commands.specs.steps.ComputedRequests.{OpensUnlessMemory, command_of, given_of, opened_by}
+use Rattle.commands.proofs.Requested.{asks_for}
+
+-- nothing is opened
+pub opens_none : (old : Option (List Access)) → Opens old old []
+opens_none None = tt
+opens_none (Some before) = ap Some (sym (append-nil before))
 
 -- what is opened behind what was opened
 pub opens_then : (a b c : Option (List Access)) (xs ys : List Access) → Opens a b xs → Opens b c ys
@@ -50,19 +53,5 @@ pub asked_opens : (words : List (List ℕ)) (request : Request) (old new : Optio
     (status : ℕ) → AskFor words request → OpensUnlessMemory old new (opened_by request) err status
     → OpensAsked words old new err status
 asked_opens words request old new err status asks (inr none) = inr (none.0, inr none.1)
-asked_opens words (requests.Plain path) old new err status asks (inl opens) =
-    inl (opened_by (requests.Plain path), plain_opens path.now asks, opens)
-asked_opens words (requests.Check schema file) old new err status asks (inl opens) =
-    inl (opened_by (requests.Check schema file), check_opens schema.now file.now asks, opens)
-asked_opens words (requests.Shrink asked) old new err status asks (inl opens) = inl (
-  smaller_opens asked,
-  shrink_opens asked.schema.now asked.file.now asked.output.now asked.certificate.now (text_of asked.merge)
-      (flags_of asked.in_sets asked.strict) asks,
-  opens,
-)
-asked_opens words (requests.Verify asked) old new err status asks (inl opens) = inl (
-  proof_opens asked,
-  verify_opens asked.schema.now asked.file.now asked.output.now asked.certificate.now (text_of asked.merge)
-      asked.in_sets asks,
-  opens,
-)
+asked_opens words request old new err status asks (inl opens) =
+    inl (command_of request, given_of request, asks_for words request asks, opens)

@@ -1,7 +1,7 @@
 -- What a run comes to that writes a normal text.
-use Rattle.std.proofs.Common.{◌≡◌, Bool, true, false, List, ℕ, Option, None, Some, Result, Ok, Err, IfSome, inl, inr, sym, ap, subst, ◌∙◌, true≢false, arith}
+use Rattle.std.proofs.Common.{◌≡◌, Bool, true, false, List, [], ◌∷◌, ℕ, Option, None, Some, Result, Ok, Err, IfSome, inl, inr, sym, ap, subst, ◌∙◌, true≢false, arith}
 use Rattle.std.specs.Prelude.{◌⊎◌}
-use Rattle.command_line.specs.Commands.{AsksPlain}
+use Rattle.command_line.specs.Commands.{Asks, Options, given_as, plain_command}
 use Rattle.files.specs.Lines.{line_of}
 use Rattle.files.specs.Stores.{Stored}
 use Rattle.files.specs.declared.fault.Role.TheVariants as roles
@@ -47,30 +47,32 @@ file_failing (Err faults.Memory) err status is e =
       | inr d ↦ inl d
     ]
 
-device_by : (writers : Writers) (words : List (List ℕ)) (files : List ℕ → Stored) (path : List ℕ) (exit : Exit)
-    (outcome : Result Unit FileFault) → AsksPlain words path
+device_by : (writers : Writers) (words : List (List ℕ)) (files : List ℕ → Stored) (path : List ℕ)
+    (options : Options) (exit : Exit) (outcome : Result Unit FileFault)
+    → Asks words plain_command (given_as (path ∷ []) options)
     → Plain (files path).contents exit.out.before.held exit.out.after.held outcome
     → IfSome (files path).fails (FailsAs outcome)
     → (exit.out.before.has_failed ≡ false → exit.out.after.has_failed ≡ is_output_fault outcome)
     → Ends outcome exit.err exit.status → exit.status ≡ 4 → IsDevices writers words files exit
-device_by writers words files path exit (Ok x) asks plain told fails e is = absurd (omega (arith, e.0, is))
-device_by writers words files path exit (Err (faults.Text role kind place)) asks plain told fails e is =
+device_by writers words files path options exit (Ok x) asks plain told fails e is = absurd (omega (arith, e.0, is))
+device_by writers words files path options exit (Err (faults.Text role kind place)) asks plain told fails e is =
     λ fresh clean. inr (inl (device_printed exit.err (line_of (faults.Text role kind place)) 2 exit.status e
     (λ no. omega (arith, no)) is clean))
-device_by writers words files path exit (Err (faults.Device roles.File written)) asks plain told fails e is =
-    λ fresh clean. inr (inr (inl (
-      path,
+device_by writers words files path options exit (Err (faults.Device roles.File written)) asks plain told fails e is =
+    λ fresh clean. inr (inr (
+      plain_command,
+      given_as (path ∷ []) options,
       asks,
       λ never. absurd (true≢false (subst (λ o. IfSome o
           (FailsAs (Err (faults.Device roles.File written)))) never told)),
-    )))
-device_by writers words files path exit (Err (faults.Device roles.Output written)) asks plain told fails e is =
+    ))
+device_by writers words files path options exit (Err (faults.Device roles.Output written)) asks plain told fails e is =
     λ fresh clean. inl (fails fresh)
-device_by writers words files path exit (Err (faults.Device roles.Schema written)) asks plain told fails e is =
+device_by writers words files path options exit (Err (faults.Device roles.Schema written)) asks plain told fails e is =
     absurd plain
-device_by writers words files path exit (Err (faults.Device roles.Certificate written)) asks plain told fails e is =
+device_by writers words files path options exit (Err (faults.Device roles.Certificate written)) asks plain told fails e is =
     absurd plain
-device_by writers words files path exit (Err faults.Memory) asks plain told fails e is =
+device_by writers words files path options exit (Err faults.Memory) asks plain told fails e is =
     λ fresh clean. inr (inl (device_printed exit.err (line_of faults.Memory) 5 exit.status e
     (λ no. omega (arith, no)) is clean))
 
@@ -89,10 +91,10 @@ plain_says file exit r = record {
 }
 
 pub plain_device : (writers : Writers) (words : List (List ℕ)) (files : List ℕ → Stored)
-    (path : List ℕ) (exit : Exit) → AsksPlain words path → RunsPlain (files path) exit → exit.status ≡ 4
-    → IsDevices writers words files exit
-plain_device writers words files path exit asks r =
-    device_by writers words files path exit r.outcome asks r.plain r.file_fails r.output_fails
+    (path : List ℕ) (options : Options) (exit : Exit) → Asks words plain_command (given_as (path ∷ []) options)
+    → RunsPlain (files path) exit → exit.status ≡ 4 → IsDevices writers words files exit
+plain_device writers words files path options exit asks r =
+    device_by writers words files path options exit r.outcome asks r.plain r.file_fails r.output_fails
     r.ends
 
 -- words that ask for something are refused for want of memory alone

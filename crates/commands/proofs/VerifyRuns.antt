@@ -2,7 +2,7 @@
 use Rattle.std.proofs.Common.{◌≡◌, Bool, true, false, List, ℕ, Option, Result, Ok, Err, IfSome, inl, inr, refl, sym, ap, ◌∙◌, subst, true≢false, arith}
 use Rattle.std.specs.Prelude.{◌⊎◌}
 use Rattle.conformance.specs.Choices.{Choice}
-use Rattle.command_line.specs.Commands.{AsksVerify}
+use Rattle.command_line.specs.Commands.{AsksVerify, Options, four, verify_command}
 use Rattle.command_line.specs.declared.command_words.Refusal.{Refusal}
 use Rattle.command_line.specs.declared.command_words.Refusal.TheVariants as refusals
 use Rattle.files.specs.Lines.{line_of}
@@ -149,15 +149,14 @@ all_can choice schema file output certificate outcome (inl (fault, is, first)) =
     ]
 
 pub verify_device : (writers : Writers) (words : List (List ℕ)) (files : List ℕ → Stored)
-    (s f o c : List ℕ) (m : Option (List ℕ)) (i : Bool)
-    (choice : Choice) (exit : Exit) → AsksVerify words s f o c m i
+    (s f o c : List ℕ) (options : Options) (choice : Choice) (exit : Exit) → AsksVerify words s f o c options
     → RunsVerify choice (files s) (files f) (files o) (files c) exit → exit.status ≡ 4
     → IsDevices writers words files exit
-verify_device writers words files s f o c m i choice exit asks r is = λ fresh clean.
+verify_device writers words files s f o c options choice exit asks r is = λ fresh clean.
     elim (ends_by_devices (CanFail (files s) ⊎ CanFail (files f) ⊎ CanFail (files o) ⊎ CanFail (files c))
     (verify_ending r.outcome) exit r.ends
     (all_can choice (files s) (files f) (files o) (files c) r.outcome r.verifies) is fresh clean) [
-      | inl can ↦ inr (inr (inr (inr (inl (s, f, o, c, m, i, asks, can)))))
+      | inl can ↦ inr (inr (verify_command, four s f o c options, asks, can))
       | inr (inl failed) ↦ inl failed
       | inr (inr failed) ↦ inr (inl failed)
     ]

@@ -64,22 +64,17 @@ pub data Ending : Type 0 where
   on_error : List ℕ → ℕ → Ending
   on_both : List ℕ → List ℕ → ℕ → Ending
 
--- The error output gets this line, if any.
-abbrev pub Closes : Option (List ℕ) → ℕ → Output → ℕ → Type 0
-Closes None wanted err status = (status ≡ wanted) × IsUntouched err
-Closes (Some line) wanted err status = Prints err line wanted status
-
--- Either the text was written, and after it the line, if any, or the output failed after a prefix of the text. In
--- that case the error output gets the line of that fault, which states how many bytes were written.
-pub record Tells (text : List ℕ) (line : Option (List ℕ)) (wanted : ℕ) (exit : Exit) : Type 0 where
-  pub sent : Result Unit WriteFault
-  pub emits : Emits exit.out.before.held exit.out.after.held text sent
-  pub output_fails : exit.out.before.has_failed ≡ false → exit.out.after.has_failed ≡ is_err sent
-  pub ends : MatchResult sent (λ _. Closes line wanted exit.err exit.status)
-      (λ fault. Ends (Err (write_fault roles.Output fault)) exit.err exit.status)
+-- Either the text was written, and after it the line on the error output, or the output failed after a prefix of the
+-- text. In that case the status is 4, and nothing more is printed.
+pub record Tells (text line : List ℕ) (wanted : ℕ) (exit : Exit) : Type 0 where
+  pub fails : Bool
+  pub told : exit.out.before.has_failed ≡ false → exit.out.after.has_failed ≡ fails
+  pub sent : MatchBool fails
+      ((exit.status ≡ 4) × AppendsFront exit.out.before.held exit.out.after.held text × IsUntouched exit.err)
+      (Appends exit.out.before.held exit.out.after.held text × Prints exit.err line wanted exit.status)
 
 -- A run ended in this way.
 abbrev pub EndsAs : Ending → Exit → Type 0
-EndsAs (on_output text wanted) exit = Tells text None wanted exit
+EndsAs (on_output text wanted) exit = Prints exit.out text wanted exit.status × IsUntouched exit.err
 EndsAs (on_error line wanted) exit = IsUntouched exit.out × Prints exit.err line wanted exit.status
-EndsAs (on_both text line wanted) exit = Tells text (Some line) wanted exit
+EndsAs (on_both text line wanted) exit = Tells text line wanted exit

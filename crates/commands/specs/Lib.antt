@@ -5,6 +5,7 @@ pub mod Faults
 pub mod Runs
 pub mod Merges
 pub mod Verifies
+pub mod PresetLists
 pub mod CommandLines
 pub mod RunLaws
 pub mod steps

@@ -1,7 +1,8 @@
 -- The outcome of a run that merges a file.
 use Rattle.std.specs.Prelude.{◌≡◌, ◌⊎◌, ℕ, List, [], Option, None, Some, IfSome, Bool, true, false, Result, Ok, Err, is_some}
 use Rattle.conformance.specs.Choices.{Choice, ChosenNames, usual, given}
-use Rattle.command_line.specs.Commands.{pieces}
+use Rattle.schema_semantics.specs.Names.{Name}
+use Rattle.command_line.specs.Commands.{Options, pieces}
 use Rattle.files.specs.Stores.{HoldsWritten, Stored}
 use Rattle.files.specs.declared.fault.Role.TheVariants as roles
 use Rattle.reports.specs.MergeLines.{merge_text}
@@ -17,9 +18,18 @@ abbrev pub asked_names : Option (List ℕ) → ChosenNames
 asked_names None = usual
 asked_names (Some names) = given (pieces names)
 
--- what the arguments choose: entity data types, and whether `--in-sets` is present
-abbrev pub asked_choice : Option (List ℕ) → Bool → Choice
-asked_choice merge in_sets = record { names = asked_names merge; in_sets = in_sets }
+-- the other names of the schema that the arguments give: none, or those of NAMES
+abbrev pub asked_other_names : Option (List ℕ) → List Name
+asked_other_names None = []
+asked_other_names (Some names) = pieces names
+
+-- what the options choose: entity data types, whether `--in-sets` is present, and other names of the schema
+abbrev pub asked_choice : Options → Choice
+asked_choice options = record {
+  names = asked_names options.merge;
+  in_sets = options.in_sets;
+  other_names = asked_other_names options.schema_alias;
+}
 
 -- how a merge ends: with the report, the number of instances kept and the last round, or with the fault
 abbrev pub shrink_ending : Result Summary Fault → Ending

@@ -1,14 +1,12 @@
 -- Laws of runs of the command line, in stores with these writers.
-use Rattle.std.specs.Prelude.{◌≡◌, ◌⊎◌, ℕ, List, Option, Some, Bool, true, false}
+use Rattle.std.specs.Prelude.{◌≡◌, ◌⊎◌, ℕ, List, Option, Some, true, false}
 use Rattle.std.specs.Io.KnownBytes.{Keeps}
-use Rattle.command_line.specs.Commands.{AsksCheck, AsksPlain, AsksShrink, AsksVerify, Flags}
+use Rattle.command_line.specs.Commands.{Asks, AsksCheck, AsksNothing, AsksPlain, Command, Given, Options}
 use Rattle.files.specs.Stores.{Stored}
-use Rattle.commands.specs.CommandLines.{IsDevices, Runs, written_at}
+use Rattle.commands.specs.CommandLines.{IsCarriedOut, IsDevices, Runs, RunsNothing}
 use Rattle.commands.specs.Endings.{Exit}
-use Rattle.commands.specs.Merges.{MakesSmaller, Writers, asked_choice}
-use Rattle.commands.specs.Runs.{RunsCheck, RunsPlain}
+use Rattle.commands.specs.Merges.{Writers}
 use Rattle.commands.specs.Statuses.{IsStatus}
-use Rattle.commands.specs.Verifies.{RunsVerify}
 
 -- a statement about arguments, the files before a run, what the paths hold after it, and how the run ended
 abbrev pub Saying : Type 1
@@ -19,31 +17,15 @@ abbrev pub OfRuns : Writers → Saying → Type 0
 OfRuns writers P = (words : List (List ℕ)) (files : List ℕ → Stored) (holds : List ℕ → Option (List ℕ)) (exit : Exit)
     → Runs writers words files holds exit → P words files holds exit
 
--- If the arguments request the normal text of a file, `plain` was run on that file.
-abbrev pub PlainIsRun : Writers → Type 0
-PlainIsRun writers = OfRuns writers (λ words files holds exit. (path : List ℕ) → AsksPlain words path
-    → RunsPlain (files path) exit)
+-- If the arguments request a command, it was carried out, with the files as they were before. The paths of `shrink`
+-- hold what was written, or their former content if nothing was.
+abbrev pub CommandIsRun : Writers → Type 0
+CommandIsRun writers = OfRuns writers (λ words files holds exit. (command : Command) → (all : Given)
+    → Asks words command all → IsCarriedOut writers files holds exit command all.operands all.options)
 
--- If the arguments request a check, the file was checked against the schema.
-abbrev pub CheckIsRun : Writers → Type 0
-CheckIsRun writers = OfRuns writers (λ words files holds exit. (schema : List ℕ) → (file : List ℕ)
-    → AsksCheck words schema file → RunsCheck (files schema) (files file) exit)
-
--- If the arguments request a smaller file and its certificate, these were made from the schema and the file as they
--- were before. Both paths hold what was written, or their former content if nothing was.
-abbrev pub ShrinkIsRun : Writers → Type 0
-ShrinkIsRun writers = OfRuns writers (λ words files holds exit. (schema : List ℕ) → (file : List ℕ)
-    → (output : List ℕ) → (certificate : List ℕ) → (merge : Option (List ℕ)) → (flags : Flags)
-    → AsksShrink words schema file output certificate merge flags
-    → MakesSmaller writers (asked_choice merge flags.in_sets) flags.strict (files schema) (files file) (written_at files holds output)
-    (written_at files holds certificate) exit)
-
--- If the arguments request whether an output is proved, that was verified with the four files.
-abbrev pub VerifyIsRun : Writers → Type 0
-VerifyIsRun writers = OfRuns writers (λ words files holds exit. (schema : List ℕ) → (file : List ℕ)
-    → (output : List ℕ) → (certificate : List ℕ) → (merge : Option (List ℕ)) → (in_sets : Bool)
-    → AsksVerify words schema file output certificate merge in_sets
-    → RunsVerify (asked_choice merge in_sets) (files schema) (files file) (files output) (files certificate) exit)
+-- If the arguments request nothing, nothing was done but to print the refusal that they have.
+abbrev pub NothingIsRun : Writers → Type 0
+NothingIsRun writers = OfRuns writers (λ words files holds exit. AsksNothing words → RunsNothing words exit)
 
 -- The status is one that the program has.
 abbrev pub StatusIsKnown : Writers → Type 0
@@ -79,11 +61,11 @@ PlainFileIsTold writers = OfRuns writers (λ words files holds exit. (path : Lis
 -- If a check is requested and each read of the schema fails, the status is 4, or 5 if memory ran out.
 abbrev pub CheckSchemaIsTold : Writers → Type 0
 CheckSchemaIsTold writers = OfRuns writers (λ words files holds exit. (schema : List ℕ) → (file : List ℕ)
-    → AsksCheck words schema file → (files schema).fails ≡ Some true → (exit.status ≡ 4) ⊎ (exit.status ≡ 5))
+    → (options : Options) → AsksCheck words schema file options → (files schema).fails ≡ Some true → (exit.status ≡ 4) ⊎ (exit.status ≡ 5))
 
 -- If a check is requested and each read of the file fails, the status is 4, or 5 if memory ran out. It is 2 if the
 -- schema has a fault, since the file isn't read then.
 abbrev pub CheckFileIsTold : Writers → Type 0
 CheckFileIsTold writers = OfRuns writers (λ words files holds exit. (schema : List ℕ) → (file : List ℕ)
-    → AsksCheck words schema file → (files file).fails ≡ Some true
+    → (options : Options) → AsksCheck words schema file options → (files file).fails ≡ Some true
     → (exit.status ≡ 2) ⊎ (exit.status ≡ 4) ⊎ (exit.status ≡ 5))

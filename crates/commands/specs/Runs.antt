@@ -1,5 +1,5 @@
 -- The outcome of a run that writes a normal text or checks a file, and of one that does nothing.
-use Rattle.std.specs.Prelude.{◌≡◌, IfSome, false, Result, Ok, Err, string_bytes}
+use Rattle.std.specs.Prelude.{◌≡◌, IfSome, List, false, Result, Ok, Err, string_bytes}
 use Rattle.files.specs.Stores.{Stored}
 use Rattle.files.specs.declared.fault.FileFault.{FileFault}
 use Rattle.files.specs.declared.fault.FileFault.TheVariants as files
@@ -9,6 +9,7 @@ use Rattle.reports.specs.Lines.{report_text}
 use Rattle.reports.specs.declared.report.Report.{Report}
 use Rattle.reports.specs.Devices.{FileFailsAs, SchemaFailsAs}
 use Rattle.reports.specs.declared.fault.Fault.{Fault}
+use Rattle.schema_semantics.specs.Names.{Name}
 use Rattle.checking.specs.Checks.{Checks}
 use Rattle.commands.specs.Endings.{Ending, Ends, EndsAs, Exit, IsUntouched, Prints, on_output}
 use Rattle.commands.specs.Faults.{fault_ending}
@@ -35,12 +36,12 @@ abbrev pub check_ending : Result Report Fault → Ending
 check_ending (Ok report) = on_output (report_text report) (report_status report)
 check_ending (Err fault) = fault_ending fault
 
--- The run checked a file against a schema. If it is known whether the reads of the schema fail, the fault is that
--- of its device exactly if they do, unless memory ran out. This also holds of the file, once the schema is
--- accepted.
-pub record RunsCheck (schema file : Stored) (exit : Exit) : Type 0 where
+-- The run checked a file against a schema, which the file may call by these other names. If it is known whether the
+-- reads of the schema fail, the fault is that of its device exactly if they do, unless memory ran out. This also holds
+-- of the file, once the schema is accepted.
+pub record RunsCheck (others : List Name) (schema file : Stored) (exit : Exit) : Type 0 where
   pub outcome : Result Report Fault
-  pub checks : Checks schema.contents file.contents outcome
+  pub checks : Checks others schema.contents file.contents outcome
   pub schema_fails : IfSome schema.fails (SchemaFailsAs outcome)
   pub file_fails : IfSome file.fails (FileFailsAs outcome)
   pub ends : EndsAs (check_ending outcome) exit

@@ -1,42 +1,51 @@
 //! The command line, over any store of files and any outputs.
 
-ghost use Rattle.std.specs.Prelude.{◌≡◌, ◌⊎◌, ℕ, List, IfOk, false, true};
+ghost use Rattle.std.specs.Prelude.{◌≡◌, ◌⊎◌, ℕ, List, IfOk, false, map, string_bytes, true};
 ghost use Rattle.std.specs.Io.KnownBytes.{Keeps};
 ghost use Rattle.command_line.specs.Commands.{AsksNothing, texts};
-ghost use Rattle.command_line.specs.steps.AskedMerges.{text_of};
+ghost use Rattle.command_line.specs.steps.Options.{shrink_options, text_of, verify_options};
 ghost use Rattle.files.specs.Lines.{line_of};
 ghost use Rattle.files.specs.Stores.{Opens, file_seen};
 ghost use Rattle.files.specs.declared.fault.FileFault.TheVariants.{Device};
 ghost use Rattle.files.specs.declared.fault.Role.TheVariants.{File};
 ghost use Rattle.merge_choices.specs.ChosenEntities.{choice_of, names_of};
-ghost use Rattle.commands.specs.CommandLines.{AsksToWrite, Does, OpensAsked, Runs, written_at};
+ghost use Rattle.commands.specs.CommandLines.{AsksToWrite, OpensAsked, Runs, written_at};
 ghost use Rattle.commands.specs.steps.ComputedRequests.{
+  Does,
   IsApart,
   IsWritten,
   OpensUnlessMemory,
+  check_opens,
   opened_by,
   proof_opens,
   smaller_opens,
 };
 ghost use Rattle.commands.specs.Endings.{Prints, exit_of, output_seen};
-ghost use Rattle.commands.specs.Merges.{MakesSmaller, asked_choice, asked_names, writers_of};
-ghost use Rattle.commands.specs.Runs.{Refuses};
+ghost use Rattle.commands.specs.Merges.{
+  MakesSmaller,
+  asked_choice,
+  asked_names,
+  asked_other_names,
+  writers_of,
+};
+ghost use Rattle.commands.specs.Runs.{Refuses, RunsCheck};
 ghost use Rattle.commands.specs.Statuses.{IsStatus};
 ghost use Rattle.commands.specs.Verifies.{RunsVerify};
 
 use crate::check::run_check;
 use crate::ending::{DONE, USAGE, finish, print, report};
 use crate::plain::plain;
+use crate::presets::tell_presets;
 use crate::shrink::run_shrink;
 use crate::verify::run_verify;
-use command_line::command_words::{Refusal, Request, read_words};
-use command_line::merge_words::{ShrinkRequest, VerifyRequest, merged_names};
+use command_line::command_words::{CheckRequest, Refusal, Request, read_words};
+use command_line::merge_words::{ShrinkRequest, VerifyRequest, names_between_commas};
 use devices::device::Sink;
 use files::fault::{FileFault, Role};
 use files::store::Store;
 use merge_choices::choice::{Choice, Names};
+use resources::Resources;
 use std::alloc::{AllocError, Global};
-use std::hash::RandomState;
 
 /// Prints why no command runs, and returns the exit status. A text that was requested is printed on
 /// `out`, everything else on `err`.
@@ -79,7 +88,18 @@ fn chosen_names(alloc: Global, merge: Option<&str>) -> Result<Names, AllocError>
 {
     match merge {
         None => Ok(Names::Usual),
-        Some(names) => Ok(Names::Given(merged_names(alloc, names)?)),
+        Some(names) => Ok(Names::Given(names_between_commas(alloc, names)?)),
+    }
+}
+
+// Returns the other names of the schema: those of NAMES, if any.
+fn other_names(alloc: Global, schema_alias: Option<&str>) -> Result<Vec<String>, AllocError>
+    ensures { IfOk result (λ names.
+        map string_bytes names.items ≡ asked_other_names (text_of schema_alias.entry)) }
+{
+    match schema_alias {
+        None => Ok(Vec::new(alloc)),
+        Some(names) => names_between_commas(alloc, names),
     }
 }
 
@@ -87,25 +107,57 @@ fn chosen_names(alloc: Global, merge: Option<&str>) -> Result<Names, AllocError>
 fn chosen(
     alloc: Global,
     merge: Option<&str>,
+    schema_alias: Option<&str>,
     in_sets: bool,
     strict: bool,
 ) -> Result<Choice, AllocError>
-    ensures choice { IfOk result
-        (λ choice. choice_of choice ≡ asked_choice (text_of merge.entry) in_sets) }
+    ensures choice { IfOk result (λ choice. choice_of choice ≡ asked_choice (record {
+      merge = text_of merge.entry;
+      schema_alias = text_of schema_alias.entry;
+      in_sets = in_sets;
+      strict = strict;
+    })) }
     ensures strict { IfOk result (λ choice. choice.strict ≡ strict) }
 {
     let names = chosen_names(alloc, merge)?;
+    let other_names = other_names(alloc, schema_alias)?;
     Ok(Choice {
         names,
         in_sets,
+        other_names,
         strict,
     })
 }
 
+// Checks the requested file, and returns the exit status.
+fn check_asked<'p, S: Store<'p>, O: Sink, E: Sink>(
+    resources: Resources,
+    asked: CheckRequest<'p>,
+    store: &mut S,
+    out: &mut O,
+    err: &mut E,
+) -> u8
+    ensures checks { RunsCheck (asked_other_names (text_of asked.entry.schema_alias))
+        (file_seen S.contents S.fails store.old asked.entry.schema.now)
+        (file_seen S.contents S.fails store.old asked.entry.file.now)
+        (exit_of (output_seen O.held O.has_failed out.old out.new)
+        (output_seen E.held E.has_failed err.old err.new) result) }
+    ensures opened { OpensUnlessMemory (S.opened store.old) (S.opened store.new)
+        (check_opens asked.entry) (output_seen E.held E.has_failed err.old err.new) result }
+    ensures kept { (path : List ℕ) → S.contents store.new path ≡ S.contents store.old path }
+{
+    let other_names = match other_names(resources.alloc, asked.schema_alias) {
+        Ok(other_names) => other_names,
+        Err(_) => return report(FileFault::Memory, err),
+    };
+    let mut schema = store.reader(asked.schema);
+    let mut file = store.reader(asked.file);
+    run_check(resources, other_names, &mut schema, &mut file, out, err)
+}
+
 // Merges the requested file under this choice, and returns the exit status.
 fn shrink_by<'p, S: Store<'p>, O: Sink, E: Sink>(
-    alloc: Global,
-    keys: RandomState,
+    resources: Resources,
     asked: ShrinkRequest<'p>,
     choice: &Choice,
     store: &mut S,
@@ -133,8 +185,7 @@ fn shrink_by<'p, S: Store<'p>, O: Sink, E: Sink>(
     let mut output = store.writer(asked.output);
     let mut certificate = store.writer(asked.certificate);
     let status = run_shrink(
-        alloc,
-        keys,
+        resources,
         &mut schema,
         choice,
         &mut file,
@@ -150,8 +201,7 @@ fn shrink_by<'p, S: Store<'p>, O: Sink, E: Sink>(
 
 // Merges the requested file, and returns the exit status.
 fn shrink_asked<'p, S: Store<'p>, O: Sink, E: Sink>(
-    alloc: Global,
-    keys: RandomState,
+    resources: Resources,
     asked: ShrinkRequest<'p>,
     store: &mut S,
     out: &mut O,
@@ -159,7 +209,7 @@ fn shrink_asked<'p, S: Store<'p>, O: Sink, E: Sink>(
 ) -> u8
     requires apart { asked.output.now ≡ asked.certificate.now → ⊥ }
     ensures makes { MakesSmaller (writers_of S.Writer.held S.Writer.has_failed)
-        (asked_choice (text_of asked.entry.merge) asked.entry.in_sets) asked.entry.strict
+        (asked_choice (shrink_options asked.entry)) asked.entry.strict
         (file_seen S.contents S.fails store.old asked.entry.schema.now)
         (file_seen S.contents S.fails store.old asked.entry.file.now)
         (written_at (file_seen S.contents S.fails store.old)
@@ -174,22 +224,28 @@ fn shrink_asked<'p, S: Store<'p>, O: Sink, E: Sink>(
         → (path ≡ asked.entry.certificate.now → ⊥)
         → S.contents store.new path ≡ S.contents store.old path }
 {
-    match chosen(alloc, asked.merge, asked.in_sets, asked.strict) {
-        Ok(choice) => shrink_by(alloc, keys, asked, &choice, store, out, err),
+    let chosen = chosen(
+        resources.alloc,
+        asked.merge,
+        asked.schema_alias,
+        asked.in_sets,
+        asked.strict,
+    );
+    match chosen {
+        Ok(choice) => shrink_by(resources, asked, &choice, store, out, err),
         Err(_) => report(FileFault::Memory, err),
     }
 }
 
 // Verifies the requested output, and returns the exit status.
 fn verify_asked<'p, S: Store<'p>, O: Sink, E: Sink>(
-    alloc: Global,
-    keys: RandomState,
+    resources: Resources,
     asked: VerifyRequest<'p>,
     store: &mut S,
     out: &mut O,
     err: &mut E,
 ) -> u8
-    ensures verifies { RunsVerify (asked_choice (text_of asked.entry.merge) asked.entry.in_sets)
+    ensures verifies { RunsVerify (asked_choice (verify_options asked.entry))
         (file_seen S.contents S.fails store.old asked.entry.schema.now)
         (file_seen S.contents S.fails store.old asked.entry.file.now)
         (file_seen S.contents S.fails store.old asked.entry.output.now)
@@ -200,7 +256,14 @@ fn verify_asked<'p, S: Store<'p>, O: Sink, E: Sink>(
         (proof_opens asked.entry) (output_seen E.held E.has_failed err.old err.new) result }
     ensures kept { (path : List ℕ) → S.contents store.new path ≡ S.contents store.old path }
 {
-    let choice = match chosen(alloc, asked.merge, asked.in_sets, false) {
+    let chosen = chosen(
+        resources.alloc,
+        asked.merge,
+        asked.schema_alias,
+        asked.in_sets,
+        false,
+    );
+    let choice = match chosen {
         Ok(choice) => choice,
         Err(_) => return report(FileFault::Memory, err),
     };
@@ -209,8 +272,7 @@ fn verify_asked<'p, S: Store<'p>, O: Sink, E: Sink>(
     let mut output = store.reader(asked.output);
     let mut certificate = store.reader(asked.certificate);
     run_verify(
-        alloc,
-        keys,
+        resources,
         &mut schema,
         &choice,
         &mut file,
@@ -223,8 +285,7 @@ fn verify_asked<'p, S: Store<'p>, O: Sink, E: Sink>(
 
 // Runs a request, and returns the exit status.
 fn run<'p, S: Store<'p>, O: Sink, E: Sink>(
-    alloc: Global,
-    keys: RandomState,
+    resources: Resources,
     request: Request<'p>,
     store: &mut S,
     out: &mut O,
@@ -244,15 +305,12 @@ fn run<'p, S: Store<'p>, O: Sink, E: Sink>(
     match request {
         Request::Plain(path) => {
             let mut source = store.reader(path);
-            finish(plain(alloc, keys, &mut source, out), err)
+            finish(plain(resources, &mut source, out), err)
         }
-        Request::Check(schema, file) => {
-            let mut schema = store.reader(schema);
-            let mut file = store.reader(file);
-            run_check(alloc, keys, &mut schema, &mut file, out, err)
-        }
-        Request::Shrink(asked) => shrink_asked(alloc, keys, asked, store, out, err),
-        Request::Verify(asked) => verify_asked(alloc, keys, asked, store, out, err),
+        Request::Check(asked) => check_asked(resources, asked, store, out, err),
+        Request::Shrink(asked) => shrink_asked(resources, asked, store, out, err),
+        Request::Verify(asked) => verify_asked(resources, asked, store, out, err),
+        Request::Presets => tell_presets(out),
     }
 }
 
@@ -271,13 +329,13 @@ fn run<'p, S: Store<'p>, O: Sink, E: Sink>(
 /// Only `shrink` writes files: the smaller file and the certificate, each created at its first
 /// write. The findings of `check` and `shrink` are printed on `out`, and so are the parts that a
 /// strict choice refuses, with a line on `err`. Every other fault is reported on `err`. If a report
-/// on `err`, or the text of `--help` or `--version`, can't be printed, nothing more is printed.
+/// on `err`, or the text of `presets`, `--help` or `--version`, can't be printed, nothing more is
+/// printed.
 ///
 /// The status isn't 4 if no output fails or has failed before, the store reveals that no read
-/// fails, and none of its writers ever fails. Names are hashed with `keys`.
+/// fails, and none of its writers ever fails. Names are hashed with the keys of `resources`.
 pub fn run_command<'p, S: Store<'p>, O: Sink, E: Sink>(
-    alloc: Global,
-    keys: RandomState,
+    resources: Resources,
     words: &'p [String],
     store: &mut S,
     out: &mut O,
@@ -297,8 +355,8 @@ pub fn run_command<'p, S: Store<'p>, O: Sink, E: Sink>(
         (output_seen E.held E.has_failed err.old err.new) result }
     ensures unopened { AsksNothing (texts words.now) → store.new ≡ store.old }
 {
-    match read_words(alloc, words) {
-        Ok(request) => run(alloc, keys, request, store, out, err),
+    match read_words(resources.alloc, words) {
+        Ok(request) => run(resources, request, store, out, err),
         Err(refusal) => refuse(refusal, out, err),
     }
 }

@@ -15,7 +15,7 @@ ghost use Rattle.devices.specs.steps.Prints as printers;
 ghost use Rattle.reports.specs.Lines.{report_text, unchecked_line};
 ghost use Rattle.reports.specs.MergeLines.{strict_line};
 ghost use Rattle.reports.specs.SchemaLines.{schema_line};
-ghost use Rattle.commands.specs.Endings.{EndsAs, Prints, exit_of, on_both, on_output, output_seen};
+ghost use Rattle.commands.specs.Endings.{EndsAs, Prints, exit_of, on_both, output_seen};
 ghost use Rattle.commands.specs.Faults.{
   fault_ending,
   refusal_line,
@@ -62,16 +62,14 @@ fn tell_schema<E: Sink>(fault: &SchemaFault, err: &mut E) -> u8
     }
 }
 
-/// Prints a report on `out` and returns `status`. If `out` fails, reports that on `err` and returns
-/// 4.
-pub fn tell_report<O: Sink, E: Sink>(found: &Report<'_>, status: u8, out: &mut O, err: &mut E) -> u8
-    ensures { EndsAs (on_output (report_text found.now) status)
-        (exit_of (output_seen O.held O.has_failed out.old out.new)
-        (output_seen E.held E.has_failed err.old err.new) result) }
+/// Prints a report on `out`. Returns `status`, or 4 if `out` fails.
+pub fn tell_report<O: Sink>(found: &Report<'_>, status: u8, out: &mut O) -> u8
+    ensures { Prints (output_seen O.held O.has_failed out.old out.new)
+        (report_text found.now) status result }
 {
     match print_report(out, found) {
         Ok(()) => status,
-        Err(fault) => report(FileFault::of_write(Role::Output, fault), err),
+        Err(_) => DEVICE,
     }
 }
 
@@ -87,7 +85,7 @@ fn refuse_parts<E: Sink>(count: u64, err: &mut E) -> u8
 }
 
 // Prints the parts of a schema that a strict choice refuses on `out`, then their number on `err`.
-// If `out` fails, reports that on `err` instead.
+// If `out` fails, prints nothing on `err` and returns 4.
 fn tell_parts<O: Sink, E: Sink>(parts: &Vec<Unchecked>, out: &mut O, err: &mut E) -> u8
     ensures { EndsAs (on_both (flat_map unchecked_line parts.now.items)
         (strict_line (length parts.now.items)) 1)
@@ -96,7 +94,7 @@ fn tell_parts<O: Sink, E: Sink>(parts: &Vec<Unchecked>, out: &mut O, err: &mut E
 {
     match print_unchecked_parts(out, parts) {
         Ok(()) => refuse_parts(parts.len() as u64, err),
-        Err(fault) => report(FileFault::of_write(Role::Output, fault), err),
+        Err(_) => DEVICE,
     }
 }
 
@@ -191,7 +189,7 @@ pub fn tell_fault<O: Sink, E: Sink>(fault: &Fault<'_>, out: &mut O, err: &mut E)
             err,
         ),
         Fault::Unchecked(parts) => tell_parts(parts, out, err),
-        Fault::Findings(found) => tell_report(found, BROKEN, out, err),
+        Fault::Findings(found) => tell_report(found, BROKEN, out),
         Fault::Refused {
             role,
             findings,

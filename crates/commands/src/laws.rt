@@ -3,27 +3,24 @@
 ghost use Rattle.commands.specs.Merges.{writers_of};
 ghost use Rattle.commands.specs.RunLaws.{
   CheckFileIsTold,
-  CheckIsRun,
   CheckSchemaIsTold,
+  CommandIsRun,
   DeviceIsTold,
   ErrorIsTold,
+  NothingIsRun,
   NothingWritten,
   OutputIsTold,
   PlainFileIsTold,
-  PlainIsRun,
-  ShrinkIsRun,
   StatusIsKnown,
-  VerifyIsRun,
 };
 
 use files::store::Store;
 
-/// A run does what its arguments request, with the files that the store holds.
+/// A run does what its arguments request, with the files that the store holds. If they request
+/// nothing, it prints the refusal that they have, and does nothing else.
 pub fn what_is_asked_for_is_run<'p, S: Store<'p>>()
-    ensures plain { PlainIsRun (writers_of S.Writer.held S.Writer.has_failed) }
-    ensures check { CheckIsRun (writers_of S.Writer.held S.Writer.has_failed) }
-    ensures shrink { ShrinkIsRun (writers_of S.Writer.held S.Writer.has_failed) }
-    ensures verify { VerifyIsRun (writers_of S.Writer.held S.Writer.has_failed) }
+    ensures run { CommandIsRun (writers_of S.Writer.held S.Writer.has_failed) }
+    ensures nothing { NothingIsRun (writers_of S.Writer.held S.Writer.has_failed) }
 {}
 
 /// The status of a run is one of the seven, and it is 4 if an output fails. If it is 4, one of

@@ -7,5 +7,6 @@ pub mod ending;
 pub mod fault;
 pub mod laws;
 pub mod plain;
+pub mod presets;
 pub mod shrink;
 pub mod verify;

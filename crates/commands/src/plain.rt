@@ -6,13 +6,12 @@ ghost use Rattle.commands.specs.Plain.{FailsAs, Plain, is_file_fault, is_output_
 use devices::device::{Sink, Source};
 use files::fault::{FileFault, LIMIT, Role};
 use files::read::read_whole;
-use std::alloc::Global;
-use std::hash::RandomState;
+use resources::Resources;
 use step_exchange::exchange::read_exchange;
 use step_exchange::write::write_plain;
 
 /// Reads `source` to its end, and writes the normal text of its exchange structure to `out`. All
-/// bytes are read before the first byte is written. Names are hashed with `keys`.
+/// bytes are read before the first byte is written. Names are hashed with the keys of `resources`.
 ///
 /// # Errors
 /// Faults carry the role `File` for the source and `Output` for `out`.
@@ -21,8 +20,7 @@ use step_exchange::write::write_plain;
 /// - `Device` if source or output fails.
 /// - `Memory` if memory runs out.
 pub fn plain<S: Source, O: Sink>(
-    alloc: Global,
-    keys: RandomState,
+    resources: Resources,
     source: &mut S,
     out: &mut O,
 ) -> Result<(), FileFault>
@@ -37,11 +35,11 @@ pub fn plain<S: Source, O: Sink>(
     // A source that can't fail has no fault. One that always fails has one.
     ensures told { IfSome (S.fails source.old) (FailsAs result) }
 {
-    let bytes = match read_whole(alloc, source, LIMIT) {
+    let bytes = match read_whole(resources.alloc, source, LIMIT) {
         Ok(bytes) => bytes,
         Err(fault) => return Err(FileFault::of_read(Role::File, fault)),
     };
-    let exchange = match read_exchange(alloc, keys, &bytes) {
+    let exchange = match read_exchange(resources.alloc, resources.keys, &bytes) {
         Ok(exchange) => exchange,
         Err(fault) => return Err(FileFault::of_text(Role::File, fault)),
     };

@@ -1,32 +1,31 @@
 //! The command `verify`: whether a certificate proves that an output is a least image of a file.
 
-ghost use Rattle.std.specs.Prelude.{◌≡◌, ◌⊎◌, false, true};
+ghost use Rattle.std.specs.Prelude.{◌≡◌, ◌∷◌, [], false, true};
 ghost use Rattle.merge_choices.specs.ChosenEntities.{choice_of};
 ghost use Rattle.files.specs.Stores.{reader_seen};
 ghost use Rattle.reports.specs.MergeLines.{proof_text};
-ghost use Rattle.commands.specs.Endings.{EndsAs, exit_of, on_output, output_seen};
+ghost use Rattle.commands.specs.steps.Devices.{OnlyByDevices, device_seen};
+ghost use Rattle.commands.specs.Endings.{Prints, exit_of, output_seen};
 ghost use Rattle.commands.specs.Verifies.{RunsVerify};
 
-use crate::ending::{DONE, report};
+use crate::ending::{DEVICE, DONE};
 use crate::fault::tell_fault;
 use devices::device::{Sink, Source};
-use files::fault::{FileFault, Role};
+use files::fault::Role;
 use merge_choices::choice::Choice;
 use reports::merge_lines::print_proof;
-use std::alloc::Global;
-use std::hash::RandomState;
+use resources::Resources;
 use verifying::proof::Proof;
 use verifying::sources::{read, verify_files};
 
-// Prints the numbers of a proof on `out`. If `out` fails, reports that on `err`.
-fn tell_proof<O: Sink, E: Sink>(proof: &Proof, out: &mut O, err: &mut E) -> u8
-    ensures { EndsAs (on_output (proof_text proof.now.instances proof.now.kept proof.now.rounds) 0)
-        (exit_of (output_seen O.held O.has_failed out.old out.new)
-        (output_seen E.held E.has_failed err.old err.new) result) }
+// Prints the numbers of a proof on `out`. Returns 0, or 4 if `out` fails.
+fn tell_proof<O: Sink>(proof: &Proof, out: &mut O) -> u8
+    ensures { Prints (output_seen O.held O.has_failed out.old out.new)
+        (proof_text proof.now.instances proof.now.kept proof.now.rounds) 0 result }
 {
     match print_proof(out, proof.instances, proof.kept, proof.rounds) {
         Ok(()) => DONE,
-        Err(fault) => report(FileFault::of_write(Role::Output, fault), err),
+        Err(_) => DEVICE,
     }
 }
 
@@ -42,10 +41,9 @@ fn tell_proof<O: Sink, E: Sink>(proof: &Proof, out: &mut O, err: &mut E) -> u8
 ///   data type of it;
 /// - 6 if the certificate is refused.
 ///
-/// The status is 5 if memory runs out, and 4 if printing fails. Names are hashed with `keys`.
+/// The status is 5 if memory runs out, and 4 if printing fails. Names are hashed with the keys of `resources`.
 pub fn run_verify<S: Source, F: Source, W: Source, C: Source, O: Sink, E: Sink>(
-    alloc: Global,
-    keys: RandomState,
+    resources: Resources,
     schema: &mut S,
     choice: &Choice,
     file: &mut F,
@@ -60,13 +58,12 @@ pub fn run_verify<S: Source, F: Source, W: Source, C: Source, O: Sink, E: Sink>(
         (exit_of (output_seen O.held O.has_failed out.old out.new)
         (output_seen E.held E.has_failed err.old err.new) result) }
     // The status is 4 only if a device fails in the run, unless one had failed before.
-    ensures device { result ≡ 4
-        → S.has_failed schema.old ≡ false → F.has_failed file.old ≡ false
-        → W.has_failed output.old ≡ false → C.has_failed certificate.old ≡ false
-        → O.has_failed out.old ≡ false → E.has_failed err.old ≡ false
-        → (S.has_failed schema.new ≡ true) ⊎ (F.has_failed file.new ≡ true)
-        ⊎ (W.has_failed output.new ≡ true) ⊎ (C.has_failed certificate.new ≡ true)
-        ⊎ (O.has_failed out.new ≡ true) ⊎ (E.has_failed err.new ≡ true) }
+    ensures device { OnlyByDevices result (device_seen S.has_failed schema.old schema.new
+        ∷ device_seen F.has_failed file.old file.new
+        ∷ device_seen W.has_failed output.old output.new
+        ∷ device_seen C.has_failed certificate.old certificate.new
+        ∷ device_seen O.has_failed out.old out.new
+        ∷ device_seen E.has_failed err.old err.new ∷ []) }
     // If a source fails in the run, the status is 4.
     ensures schema_failed { S.has_failed schema.old ≡ false → S.has_failed schema.new ≡ true
         → result ≡ 4 }
@@ -77,12 +74,12 @@ pub fn run_verify<S: Source, F: Source, W: Source, C: Source, O: Sink, E: Sink>(
     ensures certificate_failed { C.has_failed certificate.old ≡ false
         → C.has_failed certificate.new ≡ true → result ≡ 4 }
 {
-    let text = match read(alloc, Role::Schema, schema) {
+    let text = match read(resources.alloc, Role::Schema, schema) {
         Ok(text) => text,
         Err(fault) => return tell_fault(&fault, out, err),
     };
-    match verify_files(alloc, keys, &text, choice, file, output, certificate) {
-        Ok(proof) => tell_proof(&proof, out, err),
+    match verify_files(resources, &text, choice, file, output, certificate) {
+        Ok(proof) => tell_proof(&proof, out),
         Err(fault) => tell_fault(&fault, out, err),
     }
 }

@@ -6,7 +6,7 @@ use Rattle.step_values.specs.Values.{Value, leaf, reference, typed, sequence, ba
 use Rattle.express_syntax.specs.Schemas.{Schema, DataType}
 use Rattle.schema_semantics.specs.Names.{Name, OneOf}
 use Rattle.schema_semantics.specs.Attributes.{Place}
-use Rattle.conformance.specs.Choices.{Mergeable}
+use Rattle.conformance.specs.Choices.{MergeOptions}
 use Rattle.conformance.specs.Bases.{Aggregate, Base, integer, number, boolean, logical, string, binary, enumeration, entity, select, aggregate, Domain, base}
 use Rattle.conformance.specs.ParameterFits.{inner, is_listed}
 use Rattle.conformance.specs.Entities.{Entities, data_types, is_leaf}
@@ -216,7 +216,7 @@ module _ (s : Schema) (d : Domain) (en : Entities) (y : ℕ) where
       one_decided (λ e. IsTrue (is_leaf s en types e) × (is_listed e chosen ≡ false))
       (λ e. both_decided (true_decided (is_leaf s en types e)) (false_decided (is_listed e chosen))) types
 
-module _ (s : Schema) (d : Domain) (en : Entities) (rules : Rules) (chosen : Mergeable) (is : List Instance) where
+module _ (s : Schema) (d : Domain) (en : Entities) (rules : Rules) (chosen : MergeOptions) (is : List Instance) where
   abbrev elsewhere_decided : (y : ℕ) → Decided (IsPinnedElsewhere s d en rules chosen is y)
   elsewhere_decided y =
       either_decided (leaf_decided s d en y chosen.entities (types_at is y))

@@ -21,13 +21,13 @@ use Rattle.conformance.proofs.SmallSchemas.{domain_of, entities_of}
 use Rattle.conformance.proofs.Samples.{num, text, bits, item, to, dollar, star, group, typed, part, row, parts, file_of, mixed, mixed_back}
 
 abbrev named : String → List ExchangeRow → List Finding
-named schema rows = findings geo (domain_of geo 4) (entities_of geo 4) (file_of schema rows)
+named schema rows = findings geo (domain_of geo 4) (entities_of geo 4) [] (file_of schema rows)
 
 abbrev in_geo : List ExchangeRow → List Finding
 in_geo = named "GEO"
 
 abbrev in_mixed : Schema → List ExchangeRow → List Finding
-in_mixed s rows = findings s (domain_of s 6) (entities_of s 4) (file_of "MIXED" rows)
+in_mixed s rows = findings s (domain_of s 6) (entities_of s 4) [] (file_of "MIXED" rows)
 
 abbrev found : FindingKind → ℕ → ℕ → Finding
 found kind n place = record { kind = kind; instance = n; spot = Place place }
@@ -152,6 +152,25 @@ names_of_schemas : named "geo {1 0}" [] ++ named "GEA" [] ++ named " GEO" []
 unfolding string_items
 names_of_schemas = refl
 
+-- files that may also call the schema MAP or ATLAS
+abbrev known_as : String → List Finding
+known_as schema = findings geo (domain_of geo 4) (entities_of geo 4) (codes "map" ∷ codes "ATLAS" ∷ []) (file_of schema [])
+
+other_names_of_schemas : known_as "GEO" ++ known_as "Map" ++ known_as "atlas {1 0}" ++ known_as "MAPS" ++ known_as "AT"
+    ≡ record { kind = SchemaName; instance = 0; spot = Nothing }
+    ∷ record { kind = SchemaName; instance = 0; spot = Nothing } ∷ []
+unfolding string_items
+other_names_of_schemas = refl
+
+-- each data section may use another of these names
+other_names_in_sections : findings geo (domain_of geo 4) (entities_of geo 4) (codes "MAP" ∷ [])
+    (record (file_of "GEO" []) {
+      sections = record { heading = Some (codes "'a'", codes "'map'"); rows = [] }
+          ∷ record { heading = Some (codes "'b'", codes "'geo'"); rows = [] } ∷ [];
+    }) ≡ []
+unfolding string_items
+other_names_in_sections = refl
+
 items_at_any_depth : of_one_attribute "ANY" (typed "len" (num "1")
     ∷ typed "WHOLE" (num "1") ∷ to 1
     ∷ typed "LINK" (to 1) ∷ typed "CODE" (text "abc")
@@ -255,7 +274,7 @@ unfolding string_items
 operands_of_two = refl
 
 -- a section may name its schema, any of them
-sections_of_schemas : findings geo (domain_of geo 4) (entities_of geo 4) (record (file_of "GEO" []) {
+sections_of_schemas : findings geo (domain_of geo 4) (entities_of geo 4) [] (record (file_of "GEO" []) {
   sections = record { heading = Some (codes "'a'", codes "'geo'"); rows = [] }
       ∷ record { heading = Some (codes "'b'", codes "'GEA'"); rows = [] }
       ∷ record { heading = None; rows = row 1 "ITEM" [] ∷ [] } ∷ [];

@@ -11,6 +11,6 @@ rows_of_conforming_are_populations s d en are is P once conforms of =
     are_population s is P of once (conforming_are_closed s d en are is conforms)
 
 pub rows_of_files_are_populations : RowsOfFilesArePopulations
-rows_of_files_are_populations s d en are f P fits nothing of =
+rows_of_files_are_populations s d en are others f P fits nothing of =
     rows_of_conforming_are_populations s d en are.entities (population_of s d en f) P
-    ((files_name_instances s d en f).1 fits) (population_conforms s d en are f nothing) of
+    ((files_name_instances s d en f).1 fits) (population_conforms s d en are f others nothing) of

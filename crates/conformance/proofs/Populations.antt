@@ -96,7 +96,8 @@ module _ (s : Schema) (d : Domain) (en : Entities) where
         are.resolved are.entities k r (types_alike s d en are r.form) h)
         0 f.sections each
 
-    pub population_conforms : findings s d en f ≡ [] → PopulationConforms s d en (population_of s d en f)
+    pub population_conforms : (others : List Name) → findings s d en others f ≡ []
+        → PopulationConforms s d en (population_of s d en f)
     unfolding target
-    population_conforms e =
+    population_conforms others e =
         rows_conform (empty_each (row_findings s d en target) (rows_of f.sections) (rest_empty _ _ e))

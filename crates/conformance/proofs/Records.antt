@@ -114,10 +114,11 @@ module _ (s : Schema) (d : Domain) (en : Entities) (P Z : ExchangeRow → Type 0
       (rows_back k x.rows (each_in_front P x.rows (rows_of xs) h) (each_in_front Q here rest c))
       (sections_back (suc k) xs (each_behind P x.rows (rows_of xs) h) (each_behind Q here rest c))
 
-pub no_findings : (s : Schema) (d : Domain) (en : Entities) → AreOf s d en → (f : File) → is_of_schema s f ≡ true
+pub no_findings : (s : Schema) (d : Domain) (en : Entities) → AreOf s d en
+    → (others : List Name) (f : File) → is_of_schema s others f ≡ true
     → Every (IsRowSpelt s d en) (rows_of f.sections) → PopulationConforms s d en (population_of s d en f)
-    → findings s d en f ≡ []
-no_findings s d en are f named spelt c =
+    → findings s d en others f ≡ []
+no_findings s d en are others f named spelt c =
     let target : ℕ → Target = target_in s d en (rows_of f.sections) in
     let typing : Typing = typing_of (population_of s d en f) in
     let known = every_other (IsRowSpelt s d en) (IsKnown s d en) (λ r h. h.keywords) (rows_of f.sections) spelt in

@@ -159,7 +159,11 @@ labels = refl
 module _ (en : Entities) (rules : Rules) (chosen : List Name) (is : List Instance) where
   abbrev weak_if : Bool → List ℕ
   weak_if in_sets =
-      filter (λ y. test (weak_decided geo geo_domain en rules (record { entities = chosen; in_sets = in_sets }) is y))
+      filter (λ y. test (weak_decided geo geo_domain en rules (record {
+        entities = chosen;
+        in_sets = in_sets;
+        other_names = [];
+      }) is y))
       (names is)
 
   abbrev weak_by : List ℕ
@@ -167,7 +171,11 @@ module _ (en : Entities) (rules : Rules) (chosen : List Name) (is : List Instanc
 
   abbrev gentle_by : (ℕ → ℕ → Bool) → List ℕ
   gentle_by E =
-      filter (λ y. test (gentle_decided geo geo_domain en rules (record { entities = chosen; in_sets = false }) is E y))
+      filter (λ y. test (gentle_decided geo geo_domain en rules (record {
+        entities = chosen;
+        in_sets = false;
+        other_names = [];
+      }) is E y))
       (names is)
 
 abbrev weak : List Name → List Instance → List ℕ

@@ -4,7 +4,7 @@ use Rattle.std.proofs.Common.{refl, ◌∙◌, subst, inl, inr}
 use Rattle.step_structures.specs.Trees.{ExchangeRow, Section, File, rows_of}
 use Rattle.express_syntax.specs.Schemas.{Schema}
 use Rattle.express_syntax.specs.Profile.{Every}
-use Rattle.schema_semantics.specs.Names.{Among}
+use Rattle.schema_semantics.specs.Names.{Name, Among}
 use Rattle.schema_semantics.proofs.Lists.{among-left, among-right, among-either, among-map, from-map, every-at, every-of}
 use Rattle.conformance.specs.declared.finding.FindingKind.TheVariants.{SchemaName}
 use Rattle.conformance.specs.declared.finding.Spot.TheVariants.{Nothing}
@@ -71,11 +71,12 @@ module _ (s : Schema) (d : Domain) (en : Entities) where
                 (instances_from s d en (suc k) xs) rest.1,
           )
 
-  pub names_schema : (f : File) → findings s d en f ≡ [] → is_of_schema s f ≡ true
-  names_schema f e = named_so (is_of_schema s f) (front_empty _ _ e)
+  pub names_schema : (others : List Name) (f : File) → findings s d en others f ≡ [] → is_of_schema s others f ≡ true
+  names_schema others f e = named_so (is_of_schema s others f) (front_empty _ _ e)
 
-  pub rows_spelt : (f : File) → findings s d en f ≡ [] → Every (IsRowSpelt s d en) (rows_of f.sections)
-  rows_spelt f e =
+  pub rows_spelt : (others : List Name) (f : File) → findings s d en others f ≡ []
+      → Every (IsRowSpelt s d en) (rows_of f.sections)
+  rows_spelt others f e =
       let target : ℕ → Target = target_in s d en (rows_of f.sections) in
       every_other (λ r. row_findings s d en target r ≡ []) (IsRowSpelt s d en) (λ r h. row_spelt s d target en r h)
       (rows_of f.sections) (empty_each (row_findings s d en target) (rows_of f.sections) (rest_empty _ _ e))
@@ -97,12 +98,13 @@ module _ (s : Schema) (d : Domain) (en : Entities) where
           types = new.types;
         }
 
-    pub none_written : AreOf s d en → findings s d en f ≡ [] → findings s d en g ≡ []
-    none_written are e =
-        no_findings s d en are g (new.schema ∙ names_schema f e)
+    pub none_written : AreOf s d en → (others : List Name) → findings s d en others f ≡ []
+        → findings s d en others g ≡ []
+    none_written are others e =
+        no_findings s d en are others g (new.schema others ∙ names_schema others f e)
         (every-of (IsRowSpelt s d en) (rows_of g.sections) (λ q m.
         let old = new.led q m in
         row_spelt_led h s en d old.0 q old.2
-        (every-at (IsRowSpelt s d en) old.0 (rows_of f.sections) (rows_spelt f e) old.1)))
+        (every-at (IsRowSpelt s d en) old.0 (rows_of f.sections) (rows_spelt others f e) old.1)))
         (images_conform s d en h (population_of s d en f) (population_of s d en g) image
-        (population_conforms s d en are f e))
+        (population_conforms s d en are f others e))

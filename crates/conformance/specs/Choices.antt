@@ -1,4 +1,5 @@
--- What may be merged: instances of chosen entities, and those that stand alone in a SET or BAG.
+-- The options of a merge: the chosen entities, what stands alone in a SET or BAG, and other names of the
+-- schema.
 use Rattle.std.specs.Prelude.{ℕ, Bool, not, ◌||◌, cond, List, [], ◌∷◌, ◌++◌, map, filter, find, flat_map, Option, Some, None, is_some, unwrap_or, codes, bytes_eq}
 use Rattle.step_literals.specs.Words.{upper}
 use Rattle.express_syntax.specs.Schemas.{Schema}
@@ -11,16 +12,19 @@ pub data ChosenNames : Type 0 where
   usual : ChosenNames
   given : List (List ℕ) → ChosenNames
 
--- What a user chooses: entities, and whether what stands alone in a SET or BAG may be merged too.
+-- What a user chooses: entities, whether what stands alone in a SET or BAG may be merged too, and other
+-- names by which the file may call the schema.
 pub record Choice : Type 0 where
   pub names : ChosenNames
   pub in_sets : Bool
+  pub other_names : List Name
 
--- The instances that may be merged: those of these entities. If `in_sets` is true, these may stand in
--- a SET or BAG of one value.
-pub record Mergeable : Type 0 where
+-- The options of a merge by a schema. Instances of these entities may be merged. If `in_sets` is true,
+-- these may stand in a SET or BAG of one value. The file may call the schema by these other names.
+pub record MergeOptions : Type 0 where
   pub entities : List Name
   pub in_sets : Bool
+  pub other_names : List Name
 
 -- The names that are entities of the schema.
 abbrev pub present : Schema → List Name → List Name
@@ -51,5 +55,9 @@ unknown_name s (given words) = find (λ n. not (is_some (preset s n) || is_entit
 abbrev pub unknown_choice : Schema → Choice → Option Name
 unknown_choice s choice = unknown_name s choice.names
 
-abbrev pub mergeable : Schema → Choice → Mergeable
-mergeable s choice = record { entities = chosen_names s choice.names; in_sets = choice.in_sets }
+abbrev pub merge_options : Schema → Choice → MergeOptions
+merge_options s choice = record {
+  entities = chosen_names s choice.names;
+  in_sets = choice.in_sets;
+  other_names = choice.other_names;
+}

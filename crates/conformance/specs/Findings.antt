@@ -1,6 +1,6 @@
 -- The findings of an exchange structure, in order (ISO 10303-21, 11).
 use Rattle.std.specs.Prelude.{ℕ, suc, ◌==◌, ◌||◌, ◌&&◌, not, Bool, true, false, cond, List, [], ◌∷◌, ◌++◌, map, flat_map, Option, Some, None, bytes_eq}
-use Rattle.std.specs.List.{list_all, repeat, take_while}
+use Rattle.std.specs.List.{list_all, list_any, repeat, take_while}
 use Rattle.step_literals.specs.Words.{upper}
 use Rattle.step_literals.specs.Items.{string_items}
 use Rattle.step_literals.specs.declared.literal.items.Item.{Item}
@@ -35,10 +35,13 @@ abbrev pub or_zero : Option ℕ → ℕ
 or_zero None = 0
 or_zero (Some c) = c
 
--- The string names the schema, in letters of any case. What follows a space or an opening brace
--- doesn't count.
+-- The name that the string spells, in capitals. What follows a space or an opening brace doesn't count.
+abbrev pub spelled_name : List ℕ → Name
+spelled_name text = upper (map or_zero (take_while (λ c. not (ends_name c)) (map code_of (string_items text))))
+
+-- The string names the schema of this name, in letters of any case. An empty name is no schema's.
 abbrev pub names_schema : Name → List ℕ → Bool
-names_schema name text = bytes_eq (upper (map or_zero (take_while (λ c. not (ends_name c)) (map code_of (string_items text))))) name
+names_schema name text = not (bytes_eq name []) && bytes_eq (spelled_name text) name
 
 -- The string that is the only element of a list, which is itself the only one; otherwise empty.
 abbrev pub string_in : Trees → List ℕ
@@ -51,14 +54,24 @@ abbrev pub schema_text : List Record → List ℕ
 schema_text (d ∷ n ∷ r ∷ rs) = string_in r.values
 schema_text rs = []
 
--- A data section that names a schema names this one (ISO 10303-21, 11.1).
-abbrev pub heading_names : Name → Option (List ℕ × List ℕ) → Bool
-heading_names name None = true
-heading_names name (Some h) = names_schema name h.1
+-- The string names the schema by one of these names.
+abbrev pub names_one : List Name → List ℕ → Bool
+names_one names text = list_any (λ (n : Name). names_schema n text) names
 
-abbrev pub is_of_schema : Schema → File → Bool
-is_of_schema s f =
-    names_schema s.name (schema_text f.header) && list_all (λ (x : Section). heading_names s.name x.heading) f.sections
+-- A data section that names a schema does so by one of these names (ISO 10303-21, 11.1).
+abbrev pub heading_names : List Name → Option (List ℕ × List ℕ) → Bool
+heading_names names None = true
+heading_names names (Some h) = names_one names h.1
+
+-- The names by which a file may call the schema: the schema's own, and these others in any case.
+abbrev pub file_names : Schema → List Name → List Name
+file_names s others = s.name ∷ map upper others
+
+-- The file is one of the schema: it calls the schema by its own name, or by one of these others.
+abbrev pub is_of_schema : Schema → List Name → File → Bool
+is_of_schema s others f =
+    names_one (file_names s others) (schema_text f.header)
+    && list_all (λ (x : Section). heading_names (file_names s others) x.heading) f.sections
 
 -- `times` findings of the whole instance.
 abbrev pub whole_findings : ℕ → FindingKind → ℕ → List Finding
@@ -114,9 +127,9 @@ module _ (s : Schema) (d : Domain) (en : Entities) where
         (or_next (whole_findings r.name ParameterCount (wrong_counts s en r.form))
         (misfits_from r.name 0 types (places_of s en r.form) (parameters (records r.form)))))
 
-  -- The findings of a file: that of the schema's name, if any, then those of the instances in the
-  -- order of the file.
-  abbrev pub findings : File → List Finding
-  findings f =
-      cond (is_of_schema s f) [] (record { kind = SchemaName; instance = 0; spot = Nothing } ∷ [])
+  -- The findings of a file that may call the schema by these other names: that of the schema's
+  -- name, if any, then those of the instances in the order of the file.
+  abbrev pub findings : List Name → File → List Finding
+  findings others f =
+      cond (is_of_schema s others f) [] (record { kind = SchemaName; instance = 0; spot = Nothing } ∷ [])
       ++ flat_map (row_findings (target_in (rows_of f.sections))) (rows_of f.sections)

@@ -1,6 +1,7 @@
 pub mod Bases
 pub mod ParameterFits
 pub mod Entities
+pub mod OtherNames
 pub mod Findings
 pub mod Populations
 pub mod Fits

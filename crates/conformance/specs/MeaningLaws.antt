@@ -11,7 +11,7 @@ use Rattle.express_syntax.specs.Profile.{Every}
 use Rattle.schema_semantics.specs.Names.{OneOf, Among}
 use Rattle.schema_semantics.specs.Attributes.{Derivation}
 use Rattle.schema_semantics.specs.Faults.{IsResolved}
-use Rattle.conformance.specs.Choices.{Mergeable}
+use Rattle.conformance.specs.Choices.{MergeOptions}
 use Rattle.conformance.specs.Bases.{Domain}
 use Rattle.conformance.specs.Entities.{Entities, AreEntities, records, named_entity, unknown_entities}
 use Rattle.conformance.specs.Populations.{Instance, population_of, instance_at}
@@ -98,7 +98,7 @@ InverseBoundsStay = (rules : Rules) (is js : List Instance) (h : ℕ → ℕ) �
 -- sides of inverse attributes, and those that uniqueness rules concern. More instances may be
 -- pinned than the rules require.
 abbrev pub PinsTellApart : Type 0
-PinsTellApart = (s : Schema) (d : Domain) (en : Entities) (rules : Rules) (chosen : Mergeable) (is : List Instance)
+PinsTellApart = (s : Schema) (d : Domain) (en : Entities) (rules : Rules) (chosen : MergeOptions) (is : List Instance)
     (h : ℕ → ℕ) (pinned : ℕ → Bool) → IsClosed is
     → ((y : ℕ) → IsPinnedElsewhere s d en rules chosen is y → IsTrue (pinned y))
     → ((y z : ℕ) → Among y (names is) → Among z (names is) → IsTrue (pinned z) → h y ≡ h z → y ≡ z)
@@ -130,7 +130,7 @@ NoBreachInImages = (s : Schema) (d : Domain) (en : Entities) (inverses : List In
 -- If no instance breaks a uniqueness rule, an inverse attribute's bounds or a domain rule, then no
 -- instance of an image that respects pins breaks one.
 abbrev pub ImagesBreakNoRule : Type 0
-ImagesBreakNoRule = (s : Schema) (d : Domain) (en : Entities) (rules : Rules) (chosen : Mergeable)
+ImagesBreakNoRule = (s : Schema) (d : Domain) (en : Entities) (rules : Rules) (chosen : MergeOptions)
     (attributes : Attributes) → AreAttributes s rules.inverses attributes → (domain_rules : List DomainRule)
     (is js : List Instance) (h : ℕ → ℕ) (pinned : ℕ → Bool)
     → IsDistinct (◌==◌) (names is) → IsDistinct (◌==◌) (names js) → IsLedTo is js h → IsOnto is js h

@@ -4,7 +4,7 @@ use Rattle.step_values.specs.Values.{Value}
 use Rattle.express_syntax.specs.Schemas.{Schema}
 use Rattle.schema_semantics.specs.Names.{Name, OneOf}
 use Rattle.schema_semantics.specs.Attributes.{Place}
-use Rattle.conformance.specs.Choices.{Mergeable}
+use Rattle.conformance.specs.Choices.{MergeOptions}
 use Rattle.conformance.specs.Bases.{Domain}
 use Rattle.conformance.specs.ParameterFits.{is_listed}
 use Rattle.conformance.specs.Entities.{Entities, is_leaf}
@@ -59,7 +59,7 @@ module _ (s : Schema) (d : Domain) (en : Entities) where
   abbrev pub StandTogether : ℕ → ℕ → Instance → Type 0
   StandTogether y z i = HasUniqueValue s d en (λ vs. AnElement (IsReferenceTo y) vs × AnElement (IsReferenceTo z) vs) i
 
-  module _ (rules : Rules) (chosen : Mergeable) (is : List Instance) where
+  module _ (rules : Rules) (chosen : MergeOptions) (is : List Instance) where
     -- A rule that doesn't concern the elements of a LIST or ARRAY OF UNIQUE pins `y`. One of its
     -- types that has no subtype among them isn't chosen; or `y` occurs in a SET or BAG that pins it;
     -- or a uniqueness rule concerns it; or it is on a side of an inverse attribute.

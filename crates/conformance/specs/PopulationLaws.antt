@@ -3,6 +3,7 @@ use Rattle.std.specs.Prelude.{◌≡◌, ℕ, Bool, IsTrue, true, List, [], ◌�
 use Rattle.step_structures.specs.Trees.{File, rows_of}
 use Rattle.express_syntax.specs.Schemas.{Schema}
 use Rattle.express_syntax.specs.Profile.{Every}
+use Rattle.schema_semantics.specs.Names.{Name}
 use Rattle.schema_semantics.specs.Faults.{IsResolved}
 use Rattle.conformance.specs.Bases.{Domain, IsDomain}
 use Rattle.conformance.specs.Entities.{Entities, AreEntities}
@@ -21,12 +22,12 @@ pub record AreOf (s : Schema) (d : Domain) (en : Entities) : Type 0 where
   pub domain : IsDomain s d
   pub entities : AreEntities s en
 
--- A file has no findings exactly if it names the schema, its records are spelled as their entities
--- require, and its population conforms.
+-- A file has no findings exactly if it calls the schema by its own name or one of these others, its
+-- records are spelled as their entities require, and its population conforms.
 abbrev pub NoFindingsExactlyWhereItConforms : Type 0
-NoFindingsExactlyWhereItConforms = (s : Schema) (d : Domain) (en : Entities) → AreOf s d en → (f : File)
-    → (findings s d en f ≡ [])
-    ↔ ((is_of_schema s f ≡ true) × Every (IsRowSpelt s d en) (rows_of f.sections)
+NoFindingsExactlyWhereItConforms = (s : Schema) (d : Domain) (en : Entities) → AreOf s d en
+    → (others : List Name) (f : File) → (findings s d en others f ≡ [])
+    ↔ ((is_of_schema s others f ≡ true) × Every (IsRowSpelt s d en) (rows_of f.sections)
     × PopulationConforms s d en (population_of s d en f))
 
 -- If the instances that occur in SETs and BAGs that pin them, or in what is OF UNIQUE, among the
@@ -44,5 +45,6 @@ ImagesConform = (s : Schema) (d : Domain) (en : Entities) (h : ℕ → ℕ) (is 
 
 -- If a file has no findings, a file that is rewritten from it has none.
 abbrev pub NoFindingsInRewritten : Type 0
-NoFindingsInRewritten = (s : Schema) (d : Domain) (en : Entities) → AreOf s d en → (h : ℕ → ℕ) (f g : File)
-    → IsRewritten s d en h f g → findings s d en f ≡ [] → findings s d en g ≡ []
+NoFindingsInRewritten = (s : Schema) (d : Domain) (en : Entities) → AreOf s d en → (h : ℕ → ℕ)
+    (others : List Name) (f g : File) → IsRewritten s d en h f g
+    → findings s d en others f ≡ [] → findings s d en others g ≡ []

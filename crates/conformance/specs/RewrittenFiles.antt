@@ -52,9 +52,9 @@ module _ (h : ℕ → ℕ) where
 module _ (s : Schema) (d : Domain) (en : Entities) (h : ℕ → ℕ) where
   -- `g` is rewritten from `f`. Each instance of `g` is one of `f` with its references mapped by
   -- `h`, which keeps the elements of its values apart. `h` maps each name in `f` to an instance of
-  -- `g` with the same types. `g` names the schema if and only if `f` does.
+  -- `g` with the same types. `g` calls the schema by one of these names if and only if `f` does.
   pub record IsRewritten (f g : File) : Type 0 where
-    pub schema : is_of_schema s g ≡ is_of_schema s f
+    pub schema : (others : List Name) → is_of_schema s others g ≡ is_of_schema s others f
     pub led : (q : ExchangeRow) → Among q (rows_of g.sections)
         → (r : ExchangeRow) × Among r (rows_of f.sections) × FormLed h r.form q.form
         × KeepsInstanceApart s d en h (instance_of s d en 0 r)

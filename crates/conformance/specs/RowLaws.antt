@@ -7,7 +7,8 @@ use Rattle.step_structures.specs.Fits.{the_rules, FitsFile}
 use Rattle.value_equality.specs.Rows as rows
 use Rattle.value_equality.specs.Rows.{Row, IsPopulation, BagsArePinned}
 use Rattle.express_syntax.specs.Schemas.{Schema}
-use Rattle.conformance.specs.Choices.{Mergeable}
+use Rattle.schema_semantics.specs.Names.{Name}
+use Rattle.conformance.specs.Choices.{MergeOptions}
 use Rattle.conformance.specs.Bases.{Domain}
 use Rattle.conformance.specs.Entities.{Entities, AreEntities}
 use Rattle.conformance.specs.Findings.{findings}
@@ -33,7 +34,7 @@ FilesNameInstances = (s : Schema) (d : Domain) (en : Entities) (f : File)
 -- Each reference in a SET or BAG of more than one value, at any depth of a row, names a pinned
 -- instance, if at least the weak pins are pinned.
 abbrev pub BagsOfRowsArePinned : Type 0
-BagsOfRowsArePinned = (s : Schema) (d : Domain) (en : Entities) (rules : Rules) (chosen : Mergeable)
+BagsOfRowsArePinned = (s : Schema) (d : Domain) (en : Entities) (rules : Rules) (chosen : MergeOptions)
     (is : List Instance) (P : List Row) (pinned : ℕ → Bool) → AreRowsOf s is P
     → ((y : ℕ) → IsWeaklyPinned s d en rules chosen is y → IsTrue (pinned y)) → BagsArePinned P pinned
 
@@ -47,5 +48,6 @@ RowsOfConformingArePopulations = (s : Schema) (d : Domain) (en : Entities) → A
 -- If a file satisfies `FitsFile` and has no findings, the rows of its instances are a population.
 abbrev pub RowsOfFilesArePopulations : Type 0
 RowsOfFilesArePopulations = (s : Schema) (d : Domain) (en : Entities) → AreOf s d en
-    → (f : File) (P : List Row) → FitsFile the_rules f → findings s d en f ≡ []
+    → (others : List Name)
+    (f : File) (P : List Row) → FitsFile the_rules f → findings s d en others f ≡ []
     → AreRowsOf s (population_of s d en f) P → IsPopulation P

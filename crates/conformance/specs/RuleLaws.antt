@@ -11,7 +11,7 @@ use Rattle.express_syntax.specs.Profile.{Every}
 use Rattle.schema_semantics.specs.Names.{OneOf, Among}
 use Rattle.schema_semantics.specs.Faults.{IsResolved}
 use Rattle.schema_semantics.specs.Attributes.{Place}
-use Rattle.conformance.specs.Choices.{Mergeable}
+use Rattle.conformance.specs.Choices.{MergeOptions}
 use Rattle.conformance.specs.Bases.{Domain}
 use Rattle.conformance.specs.ParameterFits.{is_listed}
 use Rattle.conformance.specs.Entities.{Entities}
@@ -31,7 +31,7 @@ RulesAreOne = (s : Schema) (d : Domain) (en : Entities) (p q : Rules) → IsReso
     → (p.inverses ≡ q.inverses)
     × (unique_findings p is ≡ unique_findings q is) × (inverse_findings p is ≡ inverse_findings q is)
     × ((y : ℕ) (a : Place) → inverse_of p.inverses is y a ≡ inverse_of q.inverses is y a)
-    × ((chosen : Mergeable) (y : ℕ) → IsPinnedElsewhere s d en p chosen is y → IsPinnedElsewhere s d en q chosen is y)
+    × ((chosen : MergeOptions) (y : ℕ) → IsPinnedElsewhere s d en p chosen is y → IsPinnedElsewhere s d en q chosen is y)
 
 -- Each name in a uniqueness rule that is checked means exactly one attribute, which is explicit.
 abbrev pub CheckedNamesMeanOne : Type 0
@@ -98,30 +98,30 @@ NoFindingExactlyWhereBoundsHold = (rules : Rules) (is : List Instance)
 
 -- An instance that the weak rules pin is pinned by the gentle rules.
 abbrev pub WeakPinsAreGentle : Type 0
-WeakPinsAreGentle = (s : Schema) (d : Domain) (en : Entities) (rules : Rules) (chosen : Mergeable) (is : List Instance)
+WeakPinsAreGentle = (s : Schema) (d : Domain) (en : Entities) (rules : Rules) (chosen : MergeOptions) (is : List Instance)
     (E : ℕ → ℕ → Bool) (y : ℕ) → IsWeaklyPinned s d en rules chosen is y → IsGentlyPinned s d en rules chosen is E y
 
 -- An instance that the gentle rules pin is pinned by the plain rules.
 abbrev pub GentlePinsArePlain : Type 0
-GentlePinsArePlain = (s : Schema) (d : Domain) (en : Entities) (rules : Rules) (chosen : Mergeable) (is : List Instance)
+GentlePinsArePlain = (s : Schema) (d : Domain) (en : Entities) (rules : Rules) (chosen : MergeOptions) (is : List Instance)
     (E : ℕ → ℕ → Bool) (y : ℕ) → IsGentlyPinned s d en rules chosen is E y → IsPlainlyPinned s d en rules chosen is y
 
 -- There is a test of weak pins, and a test of gentle pins for each relation of classes.
 abbrev pub PinsHaveTests : Type 0
-PinsHaveTests = (s : Schema) (d : Domain) (en : Entities) (rules : Rules) (chosen : Mergeable) (is : List Instance)
+PinsHaveTests = (s : Schema) (d : Domain) (en : Entities) (rules : Rules) (chosen : MergeOptions) (is : List Instance)
     → ((weak : ℕ → Bool) × ((y : ℕ) → IsTrue (weak y) ↔ IsWeaklyPinned s d en rules chosen is y))
     × ((E : ℕ → ℕ → Bool) → (gentle : ℕ → Bool)
     × ((y : ℕ) → IsTrue (gentle y) ↔ IsGentlyPinned s d en rules chosen is E y))
 
 -- If each reference names an instance, each name that the plain rules pin is that of an instance.
 abbrev pub PinnedAreThere : Type 0
-PinnedAreThere = (s : Schema) (d : Domain) (en : Entities) (rules : Rules) (chosen : Mergeable) (is : List Instance)
+PinnedAreThere = (s : Schema) (d : Domain) (en : Entities) (rules : Rules) (chosen : MergeOptions) (is : List Instance)
     → IsClosed is → (y : ℕ) → IsPlainlyPinned s d en rules chosen is y → Among y (names is)
 
 -- Each reference in a SET or BAG of more than one value names a pinned instance, if at least the weak
 -- pins are pinned.
 abbrev pub BagReferencesArePinned : Type 0
-BagReferencesArePinned = (s : Schema) (d : Domain) (en : Entities) (rules : Rules) (chosen : Mergeable)
+BagReferencesArePinned = (s : Schema) (d : Domain) (en : Entities) (rules : Rules) (chosen : MergeOptions)
     (is : List Instance) (pinned : ℕ → Bool)
     → ((y : ℕ) → IsWeaklyPinned s d en rules chosen is y → IsTrue (pinned y))
     → (i : Instance) → Among i is → (x : Slot) → Among x i.slots → EachBagReference (λ y. pinned y ≡ true) x.value
@@ -129,7 +129,7 @@ BagReferencesArePinned = (s : Schema) (d : Domain) (en : Entities) (rules : Rule
 -- A relation that keeps under gentle pins, and that relates only instances of one class, relates no
 -- two elements of a LIST or ARRAY OF UNIQUE.
 abbrev pub ElementsAreToldApart : Type 0
-ElementsAreToldApart = (s : Schema) (d : Domain) (en : Entities) (rules : Rules) (chosen : Mergeable)
+ElementsAreToldApart = (s : Schema) (d : Domain) (en : Entities) (rules : Rules) (chosen : MergeOptions)
     (is : List Instance) (E R : ℕ → ℕ → Bool) (pinned : ℕ → Bool) (rows : List Row)
     → ((y : ℕ) → IsGentlyPinned s d en rules chosen is E y → IsTrue (pinned y))
     → Keeps rows pinned R → ((y z : ℕ) → R y z ≡ true → E y z ≡ true)
@@ -152,7 +152,7 @@ ImagesStayInClasses = (P Q : List Row) (few many : ℕ → Bool) (E : ℕ → �
 -- If the classes are those of value equality under weak pins, value equality under gentle pins
 -- relates no two elements of a LIST or ARRAY OF UNIQUE.
 abbrev pub ElementsAreNotMerged : Type 0
-ElementsAreNotMerged = (s : Schema) (d : Domain) (en : Entities) (rules : Rules) (chosen : Mergeable)
+ElementsAreNotMerged = (s : Schema) (d : Domain) (en : Entities) (rules : Rules) (chosen : MergeOptions)
     (is : List Instance) (rows : List Row) (weak gentle : ℕ → Bool) (E F : ℕ → ℕ → Bool) → IsPopulation rows
     → ((y : ℕ) → IsTrue (weak y) → IsWeaklyPinned s d en rules chosen is y)
     → ((y : ℕ) → IsGentlyPinned s d en rules chosen is E y → IsTrue (gentle y))
@@ -162,7 +162,7 @@ ElementsAreNotMerged = (s : Schema) (d : Domain) (en : Entities) (rules : Rules)
 -- A map keeps the elements of SETs, and of what is OF UNIQUE, apart if it maps no other instance to
 -- the image of a gently pinned one, and only instances of one class to the same image.
 abbrev pub GentlePinsKeepApart : Type 0
-GentlePinsKeepApart = (s : Schema) (d : Domain) (en : Entities) (rules : Rules) (chosen : Mergeable)
+GentlePinsKeepApart = (s : Schema) (d : Domain) (en : Entities) (rules : Rules) (chosen : MergeOptions)
     (is : List Instance) (E : ℕ → ℕ → Bool) (h : ℕ → ℕ) (pinned : ℕ → Bool)
     → ((y : ℕ) → IsGentlyPinned s d en rules chosen is E y → IsTrue (pinned y))
     → ((y z : ℕ) → Among y (names is) → Among z (names is) → IsTrue (pinned z) → h y ≡ h z → y ≡ z)

@@ -3,6 +3,7 @@
 use Rattle.std.specs.Prelude.{◌≡◌, List, []}
 use Rattle.step_structures.specs.Trees.{File}
 use Rattle.express_syntax.specs.Schemas.{Schema}
+use Rattle.schema_semantics.specs.Names.{Name}
 use Rattle.schema_semantics.specs.Faults.{IsResolved}
 use Rattle.conformance.specs.Bases.{Domain, IsDomain}
 use Rattle.conformance.specs.Entities.{Entities, AreEntities}
@@ -35,10 +36,10 @@ module _ (s : Schema) (said : Said s) where
   abbrev pub instances : File → List Instance
   instances f = population_of s said.domain said.entities f
 
-  -- A file conforms: neither its schema's name nor any instance has a finding, and no rule is
-  -- broken.
-  pub record FileConforms (f : File) : Type 0 where
-    pub nothing : findings s said.domain said.entities f ≡ []
+  -- A file that may call the schema by these other names conforms: neither its schema's name nor any
+  -- instance has a finding, and no rule is broken.
+  pub record FileConforms (others : List Name) (f : File) : Type 0 where
+    pub nothing : findings s said.domain said.entities others f ≡ []
     pub holds : rule_findings s said.domain said.entities said.attributes (instances f) said.conditions ≡ []
     pub unique : unique_findings said.rules (instances f) ≡ []
     pub bounded : inverse_findings said.rules (instances f) ≡ []

@@ -192,10 +192,12 @@ fn whole_schema<'a>(reader: &mut Reader<'a>) -> Result<SchemaTree<'a>, SyntaxFau
     let version = some_version(reader)?;
     let declarations = all_declarations(reader)?;
     end_of_text(reader)?;
+    let other_names = Vec::new(reader.alloc());
     Ok(SchemaTree {
         name,
         version,
         declarations,
+        other_names,
     })
 }
 

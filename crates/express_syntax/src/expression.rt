@@ -13,6 +13,7 @@ pub enum Number<'a> {
     Real(Decimal<'a>),
 }
 
+/// The sign before an operand (ISO 10303-11, 12.2).
 #[derive(Clone, Copy, Debug, PartialEq, Eq)]
 pub enum Sign {
     Plus,

@@ -1,5 +1,6 @@
 //! Schemas as trees (ISO 10303-11, 8 and 9).
 
+ghost use Rattle.std.specs.Prelude.{◌≡◌};
 ghost use Rattle.express_syntax.specs.Texts.{IsRead};
 ghost use Rattle.express_syntax.specs.Views.{schema_from};
 
@@ -219,6 +220,7 @@ pub enum Skipped<'a> {
     SubtypeConstraint(Word<'a>, Passage<'a>),
 }
 
+/// A declaration of a schema (ISO 10303-11, 9).
 #[derive(Drop)]
 pub enum Declaration<'a> {
     Type(TypeDeclaration<'a>),
@@ -240,5 +242,21 @@ pub struct SchemaTree<'a> {
     pub name: Word<'a>,
     pub version: Option<Version<'a>>,
     pub declarations: Vec<Declaration<'a>>,
+    /// Names by which exchange structures may call the schema beside its own, in any case.
+    pub other_names: Vec<String>,
     pub ghost read: { ∥ IsRead (schema_from name version declarations.items) ∥₁ },
+}
+
+impl<'a> SchemaTree<'a> {
+    /// Returns the same schema, which exchange structures may also call by `names`, in any case.
+    pub fn with_other_names(self, names: Vec<String>) -> SchemaTree<'a>
+        ensures { result ≡ record self.entry { other_names = names } }
+    {
+        SchemaTree {
+            name: self.name,
+            version: self.version,
+            declarations: self.declarations,
+            other_names: names,
+        }
+    }
 }

@@ -51,6 +51,7 @@ pub enum Ends {
     Parentheses,
 }
 
+/// An open bracket of a run of tokens (ISO 10303-11, 7.3).
 #[derive(Clone, Copy, Debug, PartialEq, Eq)]
 pub enum Bracket {
     Parenthesis,

@@ -3,6 +3,7 @@ use Rattle.std.specs.Prelude.{◌≡◌, ℕ, List, []}
 use Rattle.std.proofs.Common.{sym, subst, ◌∙◌}
 use Rattle.express_syntax.specs.Schemas.{Schema}
 use Rattle.step_structures.specs.Trees.{File}
+use Rattle.schema_semantics.specs.Names.{Name}
 use Rattle.conformance.specs.Conforming.{PopulationConforms}
 use Rattle.conformance.specs.PopulationLaws.{AreOf, NoFindingsExactlyWhereItConforms}
 use Rattle.conformance.specs.Populations.{Instance}
@@ -14,11 +15,11 @@ use Rattle.population_reader.specs.Verdicts.{IsFaulty}
 use Rattle.file_findings.specs.Findings.{AreRuleFindings, AreBehind, AreFindings}
 use Rattle.file_findings.proofs.Behind.{none-behind}
 
-module _ (s : Schema) (f : File) (some : Said s) where
+module _ (s : Schema) (others : List Name) (f : File) (some : Said s) where
   pub found-by-rules : NoFindingsExactlyWhereItConforms → (is : List Instance) (fs : List Finding)
-      (gs : List RuleFinding) (n : ℕ) → IsTyped s f is → fs ≡ []
+      (gs : List RuleFinding) (n : ℕ) → IsTyped s others f is → fs ≡ []
       → ((said : Said s) → PopulationConforms s said.domain said.entities is → AreRuleFindings s said is gs n)
-      → AreFindings s f fs gs n
+      → AreFindings s others f fs gs n
   found-by-rules law is fs gs n typed e rules = (
     some,
     λ said.
@@ -29,15 +30,15 @@ module _ (s : Schema) (f : File) (some : Said s) where
           entities = said.are_entities;
         } in
         let conforms = subst (PopulationConforms s said.domain said.entities) (sym same)
-        ((law s said.domain said.entities are f).0 none).2 in (
+        ((law s said.domain said.entities are others f).0 none).2 in (
           e ∙ sym none,
           subst (λ l. AreBehind s said l (instances s said f) gs n) (sym e)
               (subst (λ l. AreRuleFindings s said l gs n) same (rules said conforms)),
         ),
   )
 
-  pub found-one-by-one : (fs : List Finding) (gs : List RuleFinding) (n : ℕ) → IsFaulty s f fs → gs ≡ [] → n ≡ 0
-      → AreFindings s f fs gs n
+  pub found-one-by-one : (fs : List Finding) (gs : List RuleFinding) (n : ℕ) → IsFaulty s others f fs → gs ≡ [] → n ≡ 0
+      → AreFindings s others f fs gs n
   found-one-by-one fs gs n faulty e z = (
     some,
     λ said. (

@@ -6,6 +6,7 @@ use Rattle.value_equality.specs.Rows.{Row, IsPopulation}
 use Rattle.express_syntax.specs.Schemas.{Schema}
 use Rattle.schema_constraints.specs.declared.tables.RuleTables.{RuleTables}
 use Rattle.schema_constraints.specs.RuleTables.{AreRuleTables}
+use Rattle.schema_semantics.specs.Names.{Name}
 use Rattle.conformance.specs.PlainRows.{AreRowsOf}
 use Rattle.conformance.specs.PopulationLaws.{NoFindingsExactlyWhereItConforms}
 use Rattle.conformance.specs.Populations.{Instance}
@@ -24,25 +25,26 @@ use Rattle.file_findings.specs.declared.checked_file.Checked.TheVariants.{Faulty
 use Rattle.file_findings.specs.declared.rule_pins.Ruled.TheVariants.{Broken, Kept}
 use Rattle.file_findings.proofs.Weak.{weakly}
 
-pub faulty-one-by-one : (s : Schema) (f : File) → Said s → (c : Chosen) (x : Found) → IsFaulty s f x.findings.items
-    → x.rules.findings.items ≡ [] → x.rules.unknown ≡ 0 → ChecksFile s f c (Faulty x)
-faulty-one-by-one s f some c x faulty e z = (
-  found-one-by-one s f some x.findings.items x.rules.findings.items x.rules.unknown faulty e z,
+pub faulty-one-by-one : (s : Schema) (others : List Name) (f : File) → Said s → (c : Chosen) (x : Found)
+    → IsFaulty s others f x.findings.items → x.rules.findings.items ≡ [] → x.rules.unknown ≡ 0
+    → ChecksFile s others f c (Faulty x)
+faulty-one-by-one s others f some c x faulty e z = (
+  found-one-by-one s others f some x.findings.items x.rules.findings.items x.rules.unknown faulty e z,
   λ none. faulty.2 none.0,
 )
 
-module _ (s : Schema) (some : Said s) (law : NoFindingsExactlyWhereItConforms) (is : List Instance) (f : File)
-    (typed : IsTyped s f is) (t : RuleTables) (c : Chosen) where
-  pub faulty-by-rules : (x : Found) → IsRuled s is t c (Broken x.rules) → x.findings.items ≡ [] → ChecksFile s f c (Faulty x)
+module _ (s : Schema) (some : Said s) (law : NoFindingsExactlyWhereItConforms) (is : List Instance) (others : List Name)
+    (f : File) (typed : IsTyped s others f is) (t : RuleTables) (c : Chosen) where
+  pub faulty-by-rules : (x : Found) → IsRuled s is t c (Broken x.rules) → x.findings.items ≡ [] → ChecksFile s others f c (Faulty x)
   faulty-by-rules x ruled e = (
-    found-by-rules s f some law is x.findings.items x.rules.findings.items x.rules.unknown typed e ruled.1,
+    found-by-rules s others f some law is x.findings.items x.rules.findings.items x.rules.unknown typed e ruled.1,
     λ none. ruled.0 none.1,
   )
 
   pub clean-by-rules : AreRuleTables s t → (unknown : ℕ) (weak : WeakPins) (rows : List Row) → IsRuled s is t c (Kept unknown weak)
-      → AreRowsOf s is rows → IsPopulation rows → ChecksFile s f c (Clean unknown weak rows)
+      → AreRowsOf s is rows → IsPopulation rows → ChecksFile s others f c (Clean unknown weak rows)
   clean-by-rules rules unknown weak rows ruled are population = record {
-    nothing = found-by-rules s f some law is [] [] unknown typed refl ruled.0;
+    nothing = found-by-rules s others f some law is [] [] unknown typed refl ruled.0;
     population = population;
     are_rows = λ said. subst (λ l. AreRowsOf s l rows) (at said) are;
     are_weak = λ said names chosen. weakly s said is (instances s said f) t c (is_pinned weak.pins) names rules ruled.1

@@ -28,15 +28,15 @@ back_none [] ys e = sym e
 back_none (x ∷ xs) ys e = absurd (cc)
 
 pub conforms_where_nothing_is_found : ConformsWhereNothingIsFound
-conforms_where_nothing_is_found s said f fs gs n are = (to, from)
+conforms_where_nothing_is_found s said others f fs gs n are = (to, from)
   where
-    at : (fs ≡ findings s said.domain said.entities f) × AreBehind s said fs (instances s said f) gs n
+    at : (fs ≡ findings s said.domain said.entities others f) × AreBehind s said fs (instances s said f) gs n
     at = are.1 said
 
     rules : fs ≡ [] → AreRuleFindings s said (instances s said f) gs n
     rules e = subst (λ l. AreBehind s said l (instances s said f) gs n) e at.1
 
-    to : (fs ≡ []) × (gs ≡ []) → FileConforms s said f
+    to : (fs ≡ []) × (gs ≡ []) → FileConforms s said others f
     to e =
         let r = rules e.0 in
         let all : [] ≡ r.wheres ++ r.uniques ++ r.bounds = sym e.1 ∙ r.all in
@@ -56,7 +56,7 @@ conforms_where_nothing_is_found s said f fs gs n are = (to, from)
               (back_none (r.wheres ++ r.uniques) r.bounds all) r.are_exceeded);
         }
 
-    from : FileConforms s said f → (fs ≡ []) × (gs ≡ [])
+    from : FileConforms s said others f → (fs ≡ []) × (gs ≡ [])
     from c =
         let none = at.0 ∙ c.nothing in
         let r = rules none in

@@ -5,7 +5,7 @@ use Rattle.express_syntax.specs.Schemas.{Schema}
 use Rattle.schema_constraints.specs.declared.tables.RuleTables.{RuleTables}
 use Rattle.schema_constraints.specs.RuleTables.{AreRuleTables}
 use Rattle.schema_constraints.specs.RuleViews.{rules_seen}
-use Rattle.conformance.specs.Choices.{Mergeable}
+use Rattle.conformance.specs.Choices.{MergeOptions}
 use Rattle.conformance.specs.Pins.{IsWeaklyPinned}
 use Rattle.conformance.specs.Populations.{Instance}
 use Rattle.conformance.specs.Rules.{Rules, AreRules}
@@ -16,7 +16,7 @@ use Rattle.merge_choices.specs.declared.choice.Chosen.{Chosen}
 use Rattle.file_findings.specs.steps.ComputedRuling.{AreWeakPins}
 
 -- whatever the rules of the schema are said by
-by_others : (s : Schema) (said : Said s) (chosen : Mergeable) (is : List Instance) (p q : Rules)
+by_others : (s : Schema) (said : Said s) (chosen : MergeOptions) (is : List Instance) (p q : Rules)
     → AreRules s said.domain p → AreRules s said.domain q → (y : ℕ)
     → IsWeaklyPinned s said.domain said.entities p chosen is y
     → IsWeaklyPinned s said.domain said.entities q chosen is y
@@ -25,7 +25,7 @@ by_others s said chosen is p q h k y (inl o) =
 by_others s said chosen is p q h k y (inr o) = inr o
 
 pub weakly : (s : Schema) (said : Said s) (is all : List Instance) (t : RuleTables) (c : Chosen) (weak : ℕ → Bool)
-    (chosen : Mergeable) → AreRuleTables s t → AreWeakPins s is t c weak → AreChosen s chosen c → is ≡ all → (y : ℕ)
+    (chosen : MergeOptions) → AreRuleTables s t → AreWeakPins s is t c weak → AreChosen s chosen c → is ≡ all → (y : ℕ)
     → IsTrue (weak y) ↔ IsWeaklyPinned s said.domain said.entities said.rules chosen all y
 weakly s said is all t c weak chosen rules found are same y =
     let seen = rules_seen s t in

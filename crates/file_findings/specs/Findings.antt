@@ -2,6 +2,7 @@
 use Rattle.std.specs.Prelude.{◌≡◌, ℕ, List, [], ◌∷◌, ◌++◌}
 use Rattle.express_syntax.specs.Schemas.{Schema}
 use Rattle.step_structures.specs.Trees.{File}
+use Rattle.schema_semantics.specs.Names.{Name}
 use Rattle.conformance.specs.declared.finding.Finding.{Finding}
 use Rattle.conformance.specs.Findings.{findings}
 use Rattle.conformance.specs.Populations.{Instance}
@@ -33,15 +34,17 @@ abbrev pub AreBehind : (s : Schema) → Said s → List Finding → List Instanc
 AreBehind s said [] is gs n = AreRuleFindings s said is gs n
 AreBehind s said (x ∷ xs) is gs n = (gs ≡ []) × (n ≡ 0)
 
--- The findings of a file: `fs` of its instances one by one, `gs` of rules, and `n` pairs of an instance and a
--- domain rule are UNKNOWN. They are the findings under every meaning of the schema, and the schema has one.
-abbrev pub AreFindings : Schema → File → List Finding → List RuleFinding → ℕ → Type 0
-AreFindings s f fs gs n = Said s
-    × ((said : Said s) → (fs ≡ findings s said.domain said.entities f)
+-- The findings of a file that may call the schema by these other names: `fs` of its instances one by one, `gs` of
+-- rules, and `n` pairs of an instance and a domain rule are UNKNOWN. They are the findings under every meaning of the
+-- schema, and the schema has one.
+abbrev pub AreFindings : Schema → List Name → File → List Finding → List RuleFinding → ℕ → Type 0
+AreFindings s others f fs gs n = Said s
+    × ((said : Said s) → (fs ≡ findings s said.domain said.entities others f)
     × AreBehind s said fs (instances s said f) gs n)
 
 -- A file without findings conforms to its schema, and a file that conforms has no findings.
 abbrev pub ConformsWhereNothingIsFound : Type 0
-ConformsWhereNothingIsFound = (s : Schema) (said : Said s) (f : File) (fs : List Finding) (gs : List RuleFinding) (n : ℕ)
-    → AreFindings s f fs gs n
-    → ((fs ≡ []) × (gs ≡ []) → FileConforms s said f) × (FileConforms s said f → (fs ≡ []) × (gs ≡ []))
+ConformsWhereNothingIsFound = (s : Schema) (said : Said s) (others : List Name) (f : File) (fs : List Finding)
+    (gs : List RuleFinding) (n : ℕ) → AreFindings s others f fs gs n
+    → ((fs ≡ []) × (gs ≡ []) → FileConforms s said others f)
+    × (FileConforms s said others f → (fs ≡ []) × (gs ≡ []))

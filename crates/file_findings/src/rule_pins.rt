@@ -12,11 +12,11 @@ use population_forms::tables::SchemaTables;
 use population_inverses::extents::Extents;
 use population_pins::weak_pins::WeakPins;
 use population_pins::weak_rules::pins;
+use resources::Resources;
 use rule_names::tables::SettingTables;
 use rule_outcomes::report::RuleReport;
 use schema_resolution::resolved_schema::ResolvedSchema;
-use std::alloc::{AllocError, Global};
-use std::hash::RandomState;
+use std::alloc::AllocError;
 use typed_populations::population::Population;
 
 /// The outcome of a schema's rules at a population.
@@ -36,8 +36,7 @@ pub(crate) enum Ruled<'s> {
 
 /// Tests the rules at a population with these extents, and finds its weak pins if none is broken.
 fn ruled_by_extents<'e, 'r, 't, 's: 'r, 'a: 'r>(
-    alloc: Global,
-    keys: RandomState,
+    resources: Resources,
     graph: &ResolvedSchema<'s, 't>,
     tables: &SchemaTables,
     settings: &SettingTables<'r, 's>,
@@ -50,12 +49,12 @@ fn ruled_by_extents<'e, 'r, 't, 's: 'r, 'a: 'r>(
         (the_schema extents.now.population.now.types.now.names)
         (population_seen extents.now.population.now) extents.now.rules.now chosen.now) }
 {
-    let report = rule_findings(alloc, keys, graph, tables, settings, extents)?;
+    let report = rule_findings(resources, graph, tables, settings, extents)?;
     let broken = report.findings.len();
     if broken > 0 {
         return Ok(Ruled::Broken(report));
     }
-    let weak = pins(alloc, extents, chosen)?;
+    let weak = pins(resources.alloc, extents, chosen)?;
     Ok(Ruled::Kept {
         unknown: report.unknown,
         weak,
@@ -65,10 +64,9 @@ fn ruled_by_extents<'e, 'r, 't, 's: 'r, 'a: 'r>(
 /// Tests the rules of the schema at a population, and finds its weak pins if none is broken. The
 /// pins are those for a merge of instances of the `chosen` entity data types.
 ///
-/// Keys of rules are hashed with `keys`.
+/// Keys of rules are hashed with the keys of `resources`.
 pub(crate) fn ruled_by_population<'r, 't, 's: 'r, 'a: 'r>(
-    alloc: Global,
-    keys: RandomState,
+    resources: Resources,
     graph: &ResolvedSchema<'s, 't>,
     tables: &SchemaTables,
     settings: &SettingTables<'r, 's>,
@@ -80,7 +78,7 @@ pub(crate) fn ruled_by_population<'r, 't, 's: 'r, 'a: 'r>(
     ensures { IfOk result (IsRuled (the_schema population.now.types.now.names)
         (population_seen population.now) graph.now.rules chosen.now) }
 {
-    let extents = Extents::build(alloc, population, &graph.rules)?;
-    let ruled = ruled_by_extents(alloc, keys, graph, tables, settings, chosen, &extents)?;
+    let extents = Extents::build(resources.alloc, population, &graph.rules)?;
+    let ruled = ruled_by_extents(resources, graph, tables, settings, chosen, &extents)?;
     Ok(ruled)
 }

@@ -14,6 +14,7 @@ use population_forms::tables::SchemaTables;
 use population_inverses::extents::Extents;
 use population_uniqueness::inverses::check_inverse;
 use population_uniqueness::uniques::check_unique;
+use resources::Resources;
 use rule_names::tables::SettingTables;
 use rule_outcomes::report::RuleReport;
 use rule_outcomes::rule_check::check_rules;
@@ -25,8 +26,7 @@ use schema_derived_attributes::formula_existence::formulas_are_said;
 use schema_resolution::findings::DomainTables;
 use schema_resolution::resolved_schema::ResolvedSchema;
 use schema_types::types::ResolvedTypes;
-use std::alloc::{AllocError, Global};
-use std::hash::RandomState;
+use std::alloc::AllocError;
 use typed_populations::population::Population;
 
 /// The schema of these tables has a meaning (a `Said`).
@@ -46,11 +46,10 @@ pub fn schema_is_said(
     formulas_are_said(&domain.formulas);
 }
 
-/// Tests the domain rules of a schema at a population. Explicit attributes are hashed with
-/// `keys`.
+/// Tests the domain rules of a schema at a population. Explicit attributes are hashed with the
+/// keys of `resources`.
 fn domain_findings<'e, 'r, 't, 's: 'r, 'a: 'r>(
-    alloc: Global,
-    keys: RandomState,
+    resources: Resources,
     domain: &DomainTables<'s, 't>,
     tables: &SchemaTables,
     settings: &SettingTables<'r, 's>,
@@ -70,8 +69,8 @@ fn domain_findings<'e, 'r, 't, 's: 'r, 'a: 'r>(
     let forms = extents.population.forms();
     let form_of = extents.population.rows.form_of.as_slice();
     let sources = FormSources::of(
-        alloc,
-        keys,
+        resources.alloc,
+        resources.keys,
         types,
         &settings.sources,
         inverses,
@@ -84,7 +83,7 @@ fn domain_findings<'e, 'r, 't, 's: 'r, 'a: 'r>(
         forms: &sources,
         formulas: &domain.formulas,
     };
-    let report = check_rules(alloc, &setting, &domain.rules)?;
+    let report = check_rules(resources.alloc, &setting, &domain.rules)?;
     Ok(report)
 }
 
@@ -95,10 +94,9 @@ fn domain_findings<'e, 'r, 't, 's: 'r, 'a: 'r>(
 /// - bounds of inverse attributes that are broken.
 ///
 /// The report also counts the pairs of an instance and a domain rule whose outcome is UNKNOWN.
-/// Explicit attributes and the keys of uniqueness rules are hashed with `keys`.
+/// Explicit attributes and the keys of uniqueness rules are hashed with the keys of `resources`.
 pub fn rule_findings<'e, 'r, 't, 's: 'r, 'a: 'r>(
-    alloc: Global,
-    keys: RandomState,
+    resources: Resources,
     graph: &ResolvedSchema<'s, 't>,
     tables: &SchemaTables,
     settings: &SettingTables<'r, 's>,
@@ -113,9 +111,9 @@ pub fn rule_findings<'e, 'r, 't, 's: 'r, 'a: 'r>(
         → AreRuleFindings (the_schema extents.now.population.now.types.now.names) said
         (population_seen extents.now.population.now) r.findings.items r.unknown) }
 {
-    let mut report = domain_findings(alloc, keys, &graph.domain, tables, settings, extents)?;
-    let mut uniques = check_unique(alloc, keys, extents)?;
-    let mut bounds = check_inverse(alloc, extents)?;
+    let mut report = domain_findings(resources, &graph.domain, tables, settings, extents)?;
+    let mut uniques = check_unique(resources.alloc, resources.keys, extents)?;
+    let mut bounds = check_inverse(resources.alloc, extents)?;
     report.findings.append(&mut uniques)?;
     report.findings.append(&mut bounds)?;
     Ok(report)
@@ -123,8 +121,7 @@ pub fn rule_findings<'e, 'r, 't, 's: 'r, 'a: 'r>(
 
 /// Returns the findings of a schema's rules at a population, whose extents are built for that.
 pub(crate) fn found_by_rules<'r, 't, 's: 'r, 'a: 'r>(
-    alloc: Global,
-    keys: RandomState,
+    resources: Resources,
     graph: &ResolvedSchema<'s, 't>,
     tables: &SchemaTables,
     settings: &SettingTables<'r, 's>,
@@ -138,7 +135,7 @@ pub(crate) fn found_by_rules<'r, 't, 's: 'r, 'a: 'r>(
         → AreRuleFindings (the_schema population.now.types.now.names) said
         (population_seen population.now) r.findings.items r.unknown) }
 {
-    let extents = Extents::build(alloc, population, &graph.rules)?;
-    let report = rule_findings(alloc, keys, graph, tables, settings, &extents)?;
+    let extents = Extents::build(resources.alloc, population, &graph.rules)?;
+    let report = rule_findings(resources, graph, tables, settings, &extents)?;
     Ok(report)
 }

@@ -1,3 +1,4 @@
 pub mod Cases
 pub mod Entities
 pub mod Marking
+mod Copies

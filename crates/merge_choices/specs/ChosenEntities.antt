@@ -8,9 +8,12 @@ use Rattle.express_syntax.specs.declared.fault.SchemaFault.{SchemaFault}
 use Rattle.express_syntax.specs.declared.fault.SchemaFault.TheVariants.{Text, Name as Faulted, Memory}
 use Rattle.schema_semantics.specs.Names.{Name, IsEntity}
 use Rattle.schema_names.specs.Numbers.{HasNumber, IsAt}
+use Rattle.schema_names.specs.Schemas.{the_schema}
+use Rattle.schema_names.specs.declared.names.Names as names
+use Rattle.conformance.specs.OtherNames.{other_names}
 use Rattle.conformance.specs.ParameterFits.{is_listed}
 use Rattle.conformance.specs.Choices as choices
-use Rattle.conformance.specs.Choices.{ChosenNames, usual, given, Mergeable, unknown_choice}
+use Rattle.conformance.specs.Choices.{ChosenNames, usual, given, MergeOptions, unknown_choice}
 use Rattle.conformance.specs.Presets.{usual_names, style_names, geometry_names}
 use Rattle.merge_choices.specs.declared.choice.Names.{Names}
 use Rattle.merge_choices.specs.declared.choice.Names.TheVariants.{Usual, Given}
@@ -26,7 +29,11 @@ names_of (Given names) = given (map string_bytes names.items)
 
 -- the choice that a value of the program represents
 abbrev pub choice_of : Choice → choices.Choice
-choice_of c = record { names = names_of c.names; in_sets = c.in_sets }
+choice_of c = record {
+  names = names_of c.names;
+  in_sets = c.in_sets;
+  other_names = map string_bytes c.other_names.items;
+}
 
 -- whether a word, in capitals, is a preset
 abbrev pub is_preset : List ℕ → Bool
@@ -68,8 +75,16 @@ abbrev pub AreMarked : Schema → List Name → Chosen → Type 0
 AreMarked s names c = (n : Name) (i : ℕ) → IsEntity s n → HasNumber s n i → is_chosen c i ≡ is_listed n names
 
 -- These entities are chosen, and the choice says the same of SETs and BAGs of one value.
-abbrev pub AreChosen : Schema → Mergeable → Chosen → Type 0
+abbrev pub AreChosen : Schema → MergeOptions → Chosen → Type 0
 AreChosen s those c = AreMarked s those.entities c × (c.in_sets ≡ those.in_sets)
+
+-- These are the options of a merge of the chosen entities, if the file may call the schema by these other names.
+abbrev pub AreOptions : Schema → List Name → MergeOptions → Chosen → Type 0
+AreOptions s others those c = AreChosen s those c × (those.other_names ≡ others)
+
+-- These are the options of a merge of the chosen entities of the schema to which the names belong.
+abbrev pub AreOptionsOf : names.Names → MergeOptions → Chosen → Type 0
+AreOptionsOf n those c = AreOptions (the_schema n) (other_names n.schema.now) those c
 
 -- The declaration at each chosen number is an entity.
 abbrev pub AreOfEntities : Schema → Chosen → Type 0

@@ -1,7 +1,7 @@
 //! Choices of entities by name, and the chosen entities of a schema.
 
-ghost use Rattle.std.specs.Prelude.{◌≡◌, None, MatchResult};
-ghost use Rattle.conformance.specs.Choices.{unknown_choice, mergeable};
+ghost use Rattle.std.specs.Prelude.{◌≡◌, IfOk, None, MatchResult, map, string_bytes};
+ghost use Rattle.conformance.specs.Choices.{unknown_choice, merge_options};
 ghost use Rattle.schema_names.specs.Schemas.{the_schema};
 ghost use Rattle.merge_choices.specs.ChosenEntities.{choice_of, is_chosen, AreChosen, AreOfEntities, IsChoiceFault};
 
@@ -9,7 +9,7 @@ use crate::marks::chosen_of;
 use crate::names::{unknown_fault, unknown_name};
 use express_syntax::fault::SchemaFault;
 use schema_types::types::ResolvedTypes;
-use std::alloc::Global;
+use std::alloc::{AllocError, Global};
 
 /// The entities whose instances may be merged.
 #[derive(Drop)]
@@ -21,13 +21,17 @@ pub enum Names {
     Given(Vec<String>),
 }
 
-/// The instances that may be merged, and whether a schema with unchecked parts is refused.
+/// The instances that may be merged, the names by which a file may call the schema, and whether a
+/// schema with unchecked parts is refused.
 #[derive(Drop)]
 pub struct Choice {
     /// The entities whose instances may be merged.
     pub names: Names,
     /// Whether an instance may be merged that stands alone in a SET or BAG.
     pub in_sets: bool,
+    /// The names by which the file may call the schema beside its own, in any case. An empty one is
+    /// ignored.
+    pub other_names: Vec<String>,
     /// Whether a schema with unchecked parts is refused.
     pub strict: bool,
 }
@@ -43,6 +47,14 @@ pub struct Chosen {
 }
 
 impl Choice {
+    /// Returns a copy of the other names of the schema.
+    pub fn copy_other_names(&self) -> Result<Vec<String>, AllocError>
+        ensures { IfOk result (λ names. map string_bytes names.items
+            ≡ (choice_of self.now).other_names) }
+    {
+        self.other_names.clone()
+    }
+
     /// Returns the entities of a schema that this choice names. Names of presets that the schema
     /// lacks are ignored, and so is `strict`. The running time is proportional to the number of
     /// declarations times the number of names.
@@ -60,7 +72,7 @@ impl Choice {
         ensures { let s = the_schema types.now.names in
             let choice = choice_of self.now in
             MatchResult result (λ c. (unknown_choice s choice ≡ None)
-            × (AreChosen s (mergeable s choice) c × AreOfEntities s c))
+            × (AreChosen s (merge_options s choice) c × AreOfEntities s c))
             (IsChoiceFault s choice) }
     {
         let schema = types.names.schema;

@@ -3,7 +3,7 @@
 ghost use Rattle.std.specs.Prelude.{◌≡◌, map, IfOk};
 ghost use Rattle.express_syntax.specs.Views.{declaration_of};
 ghost use Rattle.express_syntax.specs.SchemaViews.{schema_of};
-ghost use Rattle.conformance.specs.Choices.{mergeable};
+ghost use Rattle.conformance.specs.Choices.{merge_options};
 ghost use Rattle.merge_choices.specs.ChosenEntities.{choice_of, names_of, is_marked, AreChosen, AreOfEntities};
 
 use crate::choice::{Choice, Chosen, Names};
@@ -44,7 +44,7 @@ pub(crate) fn chosen_of(
     schema: &SchemaTree<'_>,
 ) -> Result<Chosen, AllocError>
     ensures { IfOk result (λ c. AreChosen (schema_of schema.now)
-        (mergeable (schema_of schema.now) (choice_of choice.now)) c
+        (merge_options (schema_of schema.now) (choice_of choice.now)) c
         × AreOfEntities (schema_of schema.now) c) }
 {
     let marks = marks_of(alloc, &choice.names, &schema.declarations)?;

@@ -8,7 +8,7 @@ use Rattle.step_exchange.specs.Exchanges.{structure}
 use Rattle.step_exchange.proofs.Named.{names-are}
 use Rattle.value_equality.specs.Tables.{Table}
 use Rattle.value_equality.proofs.Rounds.{standard_is_valid}
-use Rattle.conformance.specs.Choices.{Mergeable}
+use Rattle.conformance.specs.Choices.{MergeOptions}
 use Rattle.conformance.specs.Pins.{IsWeaklyPinned}
 use Rattle.conformance.specs.SchemaMeanings.{Said, instances}
 use Rattle.conformance.proofs.Rowed.{same_names}
@@ -18,7 +18,7 @@ use Rattle.merge_tables.specs.steps.Merges.{AreTablesOf}
 use Rattle.merge_tables.specs.steps.ComputedTables.{AreTablesUnder}
 
 module _ (s : Schema) (said : Said s) (weak : ℕ → Bool) (first second : Table) where
-  pub tables-of : (f : File) → AreTablesUnder s (instances s said f) weak first second → (chosen : Mergeable)
+  pub tables-of : (f : File) → AreTablesUnder s (instances s said f) weak first second → (chosen : MergeOptions)
       → ((y : ℕ) → IsTrue (weak y)
       ↔ IsWeaklyPinned s said.domain said.entities said.rules chosen (instances s said f) y)
       → AreTablesOf s said chosen f first second

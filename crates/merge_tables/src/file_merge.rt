@@ -3,9 +3,10 @@
 ghost use Rattle.std.specs.Prelude.{◌≡◌, IfOk};
 ghost use Rattle.schema_names.specs.Schemas.{the_schema};
 ghost use Rattle.schema_resolution.specs.SoundGraphs.{IsSound};
-ghost use Rattle.conformance.specs.Choices.{Mergeable};
+ghost use Rattle.conformance.specs.Choices.{MergeOptions};
+ghost use Rattle.conformance.specs.OtherNames.{other_names};
 ghost use Rattle.step_exchange.specs.Exchanges.{structure};
-ghost use Rattle.merge_choices.specs.ChosenEntities.{AreChosen};
+ghost use Rattle.merge_choices.specs.ChosenEntities.{AreOptionsOf};
 ghost use Rattle.population_forms.specs.steps.Tables.{AreTables};
 ghost use Rattle.merge_tables.specs.steps.Merges.{HaveMembers, Merges, last_of};
 ghost use Rattle.merge_tables.specs.steps.ComputedTables.{Comes};
@@ -15,9 +16,9 @@ use file_findings::checked_file::{Checked, conforming};
 use file_findings::findings::Found;
 use merge_choices::choice::Chosen;
 use population_forms::tables::SchemaTables;
+use resources::Resources;
 use schema_resolution::resolved_schema::ResolvedSchema;
-use std::alloc::{AllocError, Global};
-use std::hash::RandomState;
+use std::alloc::AllocError;
 use step_exchange::structure::Exchange;
 use value_equality::table::Table;
 
@@ -52,8 +53,7 @@ pub fn last_of<'t>(first: &'t Table, second: &'t Option<Table>) -> &'t Table
 
 /// Computes the merge of a file, with the tables of its schema.
 fn merged_by_tables<'r, 't, 's: 'a, 'a: 'r>(
-    alloc: Global,
-    keys: RandomState,
+    resources: Resources,
     graph: &'r ResolvedSchema<'s, 't>,
     tables: &'r SchemaTables,
     chosen: &Chosen,
@@ -61,10 +61,11 @@ fn merged_by_tables<'r, 't, 's: 'a, 'a: 'r>(
 ) -> Result<Merging<'s>, AllocError>
     requires sound { IsSound graph.now }
     requires tables { AreTables graph.now.types tables.now }
-    ensures { IfOk result (Comes (the_schema graph.entry.now.types.names) chosen.now
+    ensures { IfOk result (Comes (the_schema graph.entry.now.types.names)
+        (other_names graph.entry.now.types.names.schema.now) chosen.now
         (structure exchange.entry.now) exchange.entry.now.names) }
 {
-    let checked = conforming(alloc, keys, graph, tables, chosen, exchange)?;
+    let checked = conforming(resources, graph, tables, chosen, exchange)?;
     match checked {
         Checked::Faulty(found) => Ok(Merging::Faulty(found)),
         Checked::Clean {
@@ -72,7 +73,7 @@ fn merged_by_tables<'r, 't, 's: 'a, 'a: 'r>(
             weak,
             rows,
         } => {
-            let (first, second) = standard_tables(alloc, keys, rows, weak)?;
+            let (first, second) = standard_tables(resources, rows, weak)?;
             Ok(Merging::Clean {
                 unknown,
                 first,
@@ -85,22 +86,21 @@ fn merged_by_tables<'r, 't, 's: 'a, 'a: 'r>(
 /// Returns the two tables by which a file is merged if instances of the `chosen` entity data types
 /// may be merged. If the file has findings, returns all of these and no table.
 ///
-/// Names, kinds, values and keys of rules are hashed with `keys`.
+/// Names, kinds, values and keys of rules are hashed with the keys of `resources`.
 pub fn merge_tables<'s: 'a, 'a>(
-    alloc: Global,
-    keys: RandomState,
+    resources: Resources,
     graph: &ResolvedSchema<'s, '_>,
     chosen: &Chosen,
     exchange: &Exchange<'a>,
 ) -> Result<Merging<'s>, AllocError>
     requires sound { IsSound graph.now }
     // The result is that of the file, whatever may be merged by `chosen`.
-    ensures merges { (those : Mergeable)
-        → AreChosen (the_schema graph.now.types.names) those chosen.now
+    ensures merges { (those : MergeOptions)
+        → AreOptionsOf graph.now.types.names those chosen.now
         → IfOk result (Merges (the_schema graph.now.types.names) those (structure exchange.now)) }
     // The members of both tables are the instances, in order.
     ensures members { IfOk result (HaveMembers exchange.now.names) }
 {
-    let tables = SchemaTables::of(alloc, &graph.types)?;
-    merged_by_tables(alloc, keys, graph, &tables, chosen, exchange)
+    let tables = SchemaTables::of(resources.alloc, &graph.types)?;
+    merged_by_tables(resources, graph, &tables, chosen, exchange)
 }

@@ -16,16 +16,15 @@ ghost use Rattle.merge_tables.specs.steps.Merges.{last_of};
 use merge_classes::classes::{refine_by, refine_last};
 use population_pins::pin_names::Pins;
 use population_pins::weak_pins::{GentlePins, WeakPins};
+use resources::Resources;
 use row_signatures::signatures::{Signatures, signatures_of};
-use std::alloc::{AllocError, Global};
-use std::hash::RandomState;
+use std::alloc::AllocError;
 use value_equality::plain::Plain;
 use value_equality::table::Table;
 
 /// Returns the table of partition refinement of `rows` under these pins.
 fn standard_table(
-    alloc: Global,
-    keys: RandomState,
+    resources: Resources,
     rows: &Plain<'_>,
     pinned: &Pins,
     signatures: &Signatures,
@@ -33,15 +32,20 @@ fn standard_table(
     requires { AreSignatures rows.now (is_pinned pinned.now) signatures.now }
     ensures { IfOk result (λ t. IsStandard rows.now (is_pinned pinned.now) (table_of t)) }
 {
-    let classes = refine_by(alloc, keys, rows, pinned.names(), signatures)?;
+    let classes = refine_by(
+        resources.alloc,
+        resources.keys,
+        rows,
+        pinned.names(),
+        signatures,
+    )?;
     Ok(classes.into_table())
 }
 
 /// Returns the table of partition refinement of `rows` under these pins, and consumes the
 /// signatures.
 fn last_table(
-    alloc: Global,
-    keys: RandomState,
+    resources: Resources,
     rows: &Plain<'_>,
     pinned: &Pins,
     signatures: Signatures,
@@ -49,15 +53,20 @@ fn last_table(
     requires { AreSignatures rows.now (is_pinned pinned.now) signatures }
     ensures { IfOk result (λ t. IsStandard rows.now (is_pinned pinned.now) (table_of t)) }
 {
-    let classes = refine_last(alloc, keys, rows, pinned.names(), signatures)?;
+    let classes = refine_last(
+        resources.alloc,
+        resources.keys,
+        rows,
+        pinned.names(),
+        signatures,
+    )?;
     Ok(classes.into_table())
 }
 
 /// Returns the table under the gentle pins; `None` if these are the weak pins. Consumes rows and
 /// signatures, to free their memory.
 fn second_table(
-    alloc: Global,
-    keys: RandomState,
+    resources: Resources,
     rows: Plain<'_>,
     gentle: &GentlePins,
     signatures: Signatures,
@@ -69,15 +78,14 @@ fn second_table(
     if gentle.are_weak {
         return Ok(None);
     }
-    let table = last_table(alloc, keys, &rows, &gentle.pins, signatures)?;
+    let table = last_table(resources, &rows, &gentle.pins, signatures)?;
     Ok(Some(table))
 }
 
 /// Returns the table of the rows under these weak pins, and the one under the gentle pins that
 /// these give, if they differ.
 fn tables_by(
-    alloc: Global,
-    keys: RandomState,
+    resources: Resources,
     rows: Plain<'_>,
     weak: WeakPins,
     signatures: Signatures,
@@ -88,18 +96,17 @@ fn tables_by(
         → AreUniqueOf s is weak.lists → IfOk result (λ t. AreTablesUnder s is
         (is_pinned weak.pins) (table_of t.0) (table_of (last_of t.0 t.1))) }
 {
-    let first = standard_table(alloc, keys, &rows, &weak.pins, &signatures)?;
-    let gentle = weak.into_gentle(alloc, keys, &first)?;
-    let second = second_table(alloc, keys, rows, &gentle, signatures)?;
+    let first = standard_table(resources, &rows, &weak.pins, &signatures)?;
+    let gentle = weak.into_gentle(resources.alloc, resources.keys, &first)?;
+    let second = second_table(resources, rows, &gentle, signatures)?;
     Ok((first, second))
 }
 
 /// Returns the table of a population's rows under its weak pins. If the gentle pins differ, also
 /// returns the table under these; the classes of the first table determine them. Names and keys are
-/// hashed with `keys`.
+/// hashed with the keys of `resources`.
 pub(crate) fn standard_tables(
-    alloc: Global,
-    keys: RandomState,
+    resources: Resources,
     rows: Plain<'_>,
     weak: WeakPins,
 ) -> Result<(Table, Option<Table>), AllocError>
@@ -108,6 +115,6 @@ pub(crate) fn standard_tables(
         → AreUniqueOf s is weak.lists → IfOk result (λ t. AreTablesUnder s is
         (is_pinned weak.pins) (table_of t.0) (table_of (last_of t.0 t.1))) }
 {
-    let signatures = signatures_of(alloc, keys, &rows, weak.pins.names())?;
-    tables_by(alloc, keys, rows, weak, signatures)
+    let signatures = signatures_of(resources.alloc, resources.keys, &rows, weak.pins.names())?;
+    tables_by(resources, rows, weak, signatures)
 }

@@ -6,7 +6,7 @@ use Rattle.value_equality.specs.Rows.{Row, BagsArePinned}
 use Rattle.value_equality.specs.ValueEquality.{IsValueEquality}
 use Rattle.express_syntax.specs.Schemas.{Schema}
 use Rattle.schema_semantics.specs.Names.{Name, Among}
-use Rattle.conformance.specs.Choices.{Mergeable}
+use Rattle.conformance.specs.Choices.{MergeOptions}
 use Rattle.conformance.specs.Bases.{Domain}
 use Rattle.conformance.specs.Entities.{Entities}
 use Rattle.conformance.specs.Populations.{Instance, instance_at}
@@ -58,7 +58,7 @@ module _ (s : Schema) (d : Domain) (en : Entities) (is js : List Instance) (h : 
   pub image_of_names : IsTypedImage s d en h is js
   image_of_names = record { led = source; types = same_typing }
 
-module _ (s : Schema) (d : Domain) (en : Entities) (rules : Rules) (chosen : Mergeable) (is js : List Instance)
+module _ (s : Schema) (d : Domain) (en : Entities) (rules : Rules) (chosen : MergeOptions) (is js : List Instance)
     (P Q : List Row) (h : ℕ → ℕ) (weak pinned : ℕ → Bool) (E : ℕ → ℕ → Bool) (maps : MapsRows s is js P Q h pinned)
     (weakly : (y : ℕ) → IsTrue (weak y) → IsWeaklyPinned s d en rules chosen is y)
     (equality : IsValueEquality P weak E)

@@ -43,9 +43,9 @@ module _ (s : Schema) (d : Domain) (en : Entities) where
 
 -- by the law of files without findings
 pub files_are_laid_out : NoFindingsExactlyWhereItConforms → FilesAreLaidOut
-files_are_laid_out law s d en are f none keywords =
+files_are_laid_out law s d en are others f none keywords =
     let is = population_of s d en f in
-    let conforms = (law s d en are f).0 none in
+    let conforms = (law s d en are others f).0 none in
     let once = files_have_places_once s d en are.resolved are.entities f
     (whole s d en (rows_of f.sections) conforms.1 keywords) in
     every-of (IsLaidOut s) is (λ i m. record {

@@ -15,7 +15,7 @@ use Rattle.value_equality.proofs.Congruences.{value_equality_is_congruence}
 use Rattle.value_equality.proofs.Rounds.{tables_decide}
 use Rattle.value_equality.proofs.Outputs.{certificates_prove}
 use Rattle.express_syntax.specs.Schemas.{Schema}
-use Rattle.conformance.specs.Choices.{Mergeable}
+use Rattle.conformance.specs.Choices.{MergeOptions}
 use Rattle.conformance.specs.PopulationLaws.{ImagesConform, NoFindingsExactlyWhereItConforms}
 use Rattle.merge_theorems.specs.Images.{MapsRows}
 use Rattle.merge_theorems.proofs.Keywords.{keywords_stand_once}
@@ -36,7 +36,7 @@ names_of_file s said f P rows =
     same_names s (instances s said f) P rows ∙ names_from s said.domain said.entities 0 f.sections
 
 -- the names of rows of an input are those of its file
-pub file_names : (s : Schema) (said : Said s) (chosen : Mergeable) (text : List ℕ) (input : IsMergeInput s said chosen text)
+pub file_names : (s : Schema) (said : Said s) (chosen : MergeOptions) (text : List ℕ) (input : IsMergeInput s said chosen text)
     → names input.rows ≡ map (λ (r : trees.ExchangeRow). r.name) (rows_of input.file.sections)
 file_names s said chosen text input = names_of_file s said input.file input.rows input.are_rows
 
@@ -49,8 +49,8 @@ head_within (y ∷ ys) E x l w = go (E y x) (head_within ys E x l w.1)
     go true more = w.0
     go false more = more
 
-pub of_file : (s : Schema) (said : Said s) (chosen : Mergeable) (text : List ℕ) (input : IsMergeInput s said chosen text)
-    → AreRowsOfFile s said input.file input.rows
+pub of_file : (s : Schema) (said : Said s) (chosen : MergeOptions) (text : List ℕ) (input : IsMergeInput s said chosen text)
+    → AreRowsOfFile s said chosen.other_names input.file input.rows
 of_file s said chosen text input = record {
   fits = input.reads.fits;
   rows = input.are_rows;
@@ -95,7 +95,8 @@ checks_prove images law s said chosen text output checked =
     let are = are_of s said chosen i.file i.rows i.pinned file i.pins in
     let maps : MapsRows s is js i.rows checked.rows (head_of (names i.rows) E) i.pinned = record {
       laid_out = laid s said chosen i.file i.rows i.pinned file i.pins law;
-      image_laid_out = files_are_laid_out law s said.domain said.entities are checked.file checked.nothing
+      image_laid_out = files_are_laid_out law s said.domain said.entities are chosen.other_names checked.file
+          checked.nothing
           (keywords_stand_once checked.file checked.reads.fits);
       rows = i.are_rows;
       image_rows = checked.are_rows;
@@ -103,7 +104,7 @@ checks_prove images law s said chosen text output checked =
       image_population = checked.population;
       image = proved.0;
     } in
-    let whole = (law s said.domain said.entities are i.file).0 i.conforms.nothing in
+    let whole = (law s said.domain said.entities are chosen.other_names i.file).0 i.conforms.nothing in
     let all = images_of_rows_conform images s said.domain said.entities said.rules chosen said.attributes
     said.are_attributes said.conditions is js i.rows checked.rows (head_of (names i.rows) E) i.pins.weak i.pinned
     i.pins.classes maps (λ y. (i.pins.are_weak y).0) classes (λ y. (i.pins.are_gentle y).1) whole.2

@@ -8,7 +8,7 @@ use Rattle.value_equality.specs.Rows.{Row, names}
 use Rattle.value_equality.specs.ValueEquality.{IsValueEquality}
 use Rattle.value_equality.specs.Images.{head_of}
 use Rattle.express_syntax.specs.Schemas.{Schema}
-use Rattle.conformance.specs.Choices.{Mergeable}
+use Rattle.conformance.specs.Choices.{MergeOptions}
 use Rattle.conformance.specs.PlainRows.{AreRowsOf}
 use Rattle.conformance.specs.Pins.{IsWeaklyPinned, IsGentlyPinned}
 use Rattle.conformance.specs.SchemaMeanings.{Said, instances}
@@ -30,7 +30,7 @@ same_equality P pinned E F h k =
 abbrev sections_of : File → List Section
 sections_of x = x.sections
 
-module _ (s : Schema) (said : Said s) (chosen : Mergeable) (text : List ℕ) where
+module _ (s : Schema) (said : Said s) (chosen : MergeOptions) (text : List ℕ) where
   -- two inputs are one
   pub record AreOne (a b : IsMergeInput s said chosen text) : Type 0 where
     pub header : a.header_bytes ≡ b.header_bytes

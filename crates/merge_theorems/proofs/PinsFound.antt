@@ -4,7 +4,7 @@ use Rattle.std.proofs.Common.{inl, inr}
 use Rattle.value_equality.specs.Tables.{shares}
 use Rattle.value_equality.proofs.Rounds.{tables_decide}
 use Rattle.express_syntax.specs.Schemas.{Schema}
-use Rattle.conformance.specs.Choices.{Mergeable}
+use Rattle.conformance.specs.Choices.{MergeOptions}
 use Rattle.conformance.specs.Populations.{Instance}
 use Rattle.conformance.specs.Rules.{Rules, AreRules}
 use Rattle.conformance.specs.Pins.{IsWeaklyPinned}
@@ -14,7 +14,7 @@ use Rattle.conformance.specs.SchemaMeanings.{Said}
 use Rattle.merge_theorems.specs.TwoStepPins.{PinsAreFound}
 
 -- whatever the rules of the schema are said by
-pub weak_one : (s : Schema) (said : Said s) (chosen : Mergeable) (is : List Instance) (p q : Rules)
+pub weak_one : (s : Schema) (said : Said s) (chosen : MergeOptions) (is : List Instance) (p q : Rules)
     → AreRules s said.domain p → AreRules s said.domain q → (y : ℕ)
     → IsWeaklyPinned s said.domain said.entities p chosen is y
     → IsWeaklyPinned s said.domain said.entities q chosen is y

@@ -10,7 +10,7 @@ use Rattle.express_syntax.specs.Schemas.{Schema, DataType}
 use Rattle.schema_semantics.specs.Names.{Name, OneOf, Among}
 use Rattle.schema_semantics.specs.Attributes.{Place}
 use Rattle.schema_semantics.proofs.Lists.{from-map, every-at}
-use Rattle.conformance.specs.Choices.{Mergeable}
+use Rattle.conformance.specs.Choices.{MergeOptions}
 use Rattle.conformance.specs.Bases.{Domain, base}
 use Rattle.conformance.specs.ParameterFits.{is_listed}
 use Rattle.conformance.specs.Entities.{Entities, data_types}
@@ -333,7 +333,7 @@ module _ (is js : List Instance) (h : ℕ → ℕ) (distinct : IsDistinct (◌==
   some_led : {A : Type 0} (P Q : A → Type 0) → ((a : A) → P a → Q a) → (xs : List A) → OneOf P xs → OneOf Q xs
   some_led P Q f xs o = let a = found P xs o in one_is Q a.0 xs a.1 (f a.0 a.2)
 
-  module _ (s : Schema) (d : Domain) (en : Entities) (rules : Rules) (chosen : Mergeable) where
+  module _ (s : Schema) (d : Domain) (en : Entities) (rules : Rules) (chosen : MergeOptions) where
     elsewhere_led : (y : ℕ) → IsPinnedElsewhere s d en rules chosen is y
         → IsPinnedElsewhere s d en rules chosen js (h y)
     elsewhere_led y (inl o) = inl (leaf_led s d en chosen.entities y o)

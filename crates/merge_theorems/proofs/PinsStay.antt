@@ -18,7 +18,7 @@ use Rattle.value_equality.proofs.Congruences.{value_equality_is_congruence}
 use Rattle.value_equality.proofs.Reduced.{quotients_are_reduced}
 use Rattle.express_syntax.specs.Schemas.{Schema, DataType}
 use Rattle.schema_semantics.specs.Names.{OneOf, Among}
-use Rattle.conformance.specs.Choices.{Mergeable}
+use Rattle.conformance.specs.Choices.{MergeOptions}
 use Rattle.conformance.specs.Bases.{Domain, base}
 use Rattle.conformance.specs.Entities.{Entities, data_types}
 use Rattle.conformance.specs.Populations.{Slot, Instance}
@@ -43,7 +43,7 @@ use Rattle.merge_theorems.proofs.Standing.{element_same, reference_same, element
 use Rattle.merge_theorems.proofs.PinsLed.{of_instance, to_instance, value_to, value_from, weak_led, weak_back}
 use Rattle.merge_theorems.proofs.Whole.{bags, maps}
 
-module _ (s : Schema) (said : Said s) (chosen : Mergeable) (is js : List Instance) (P Q : List Row) (h : ℕ → ℕ)
+module _ (s : Schema) (said : Said s) (chosen : MergeOptions) (is js : List Instance) (P Q : List Row) (h : ℕ → ℕ)
     (pinned kept : ℕ → Bool) (of : MapsRows s is js P Q h pinned) (pins : ArePins s said chosen is P pinned)
     (anew : ArePins s said chosen js Q kept) where
   abbrev d : Domain

@@ -8,7 +8,7 @@ use Rattle.value_equality.specs.ValueEquality.{IsCongruence}
 use Rattle.value_equality.specs.Images.{IsImage, head_of, quotient}
 use Rattle.value_equality.proofs.Quotients.{quotients_are_images}
 use Rattle.value_equality.proofs.Counting.{no_image_has_fewer}
-use Rattle.conformance.specs.Choices.{Mergeable}
+use Rattle.conformance.specs.Choices.{MergeOptions}
 use Rattle.conformance.specs.PlainRows.{AreRowsOf}
 use Rattle.express_syntax.specs.Schemas.{Schema}
 use Rattle.express_syntax.specs.Profile.{Every}
@@ -34,8 +34,8 @@ merged_populations_are_led s d en h f =
     let same = population_merged h s d en f in
     (same, λ P are. subst (λ js. AreRowsOf s js (merged_rows h P)) (sym same) (rows_led h s is P are))
 
-module _ (s : Schema) (said : Said s) (chosen : Mergeable) (f : File) (P : List Row) (pinned : ℕ → Bool)
-    (file : AreRowsOfFile s said f P) (pins : ArePins s said chosen (instances s said f) P pinned) where
+module _ (s : Schema) (said : Said s) (chosen : MergeOptions) (f : File) (P : List Row) (pinned : ℕ → Bool)
+    (file : AreRowsOfFile s said chosen.other_names f P) (pins : ArePins s said chosen (instances s said f) P pinned) where
   abbrev is : List Instance
   is = instances s said f
 
@@ -49,7 +49,7 @@ module _ (s : Schema) (said : Said s) (chosen : Mergeable) (f : File) (P : List 
 
   module _ (law : NoFindingsExactlyWhereItConforms) where
     pub laid : Every (IsLaidOut s) is
-    laid = files_are_laid_out law s said.domain said.entities are_of f file.conforms.nothing
+    laid = files_are_laid_out law s said.domain said.entities are_of chosen.other_names f file.conforms.nothing
         (keywords_stand_once f file.fits)
 
     module _ (F : ℕ → ℕ → Bool) (congruence : IsCongruence P pinned F) where
@@ -80,16 +80,16 @@ module _ (s : Schema) (said : Said s) (chosen : Mergeable) (f : File) (P : List 
         image = image.0;
       }
 
-      pub conforms : ImagesConform → FileConforms s said g
+      pub conforms : ImagesConform → FileConforms s said chosen.other_names g
       conforms images =
-          let whole = (law s said.domain said.entities are_of f).0 file.conforms.nothing in
+          let whole = (law s said.domain said.entities are_of chosen.other_names f).0 file.conforms.nothing in
           let all = images_of_rows_conform images s said.domain said.entities said.rules chosen said.attributes
           said.are_attributes said.conditions is (instances s said g) P (quotient P F) h pins.weak pinned pins.classes
           maps (λ y. (pins.are_weak y).0) pins.are_classes (λ y. (pins.are_gentle y).1) whole.2 file.conforms.unique
           file.conforms.bounded file.conforms.holds in
           record {
-            nothing = (law s said.domain said.entities are_of g).1 (
-              schema_named h s f ∙ whole.0,
+            nothing = (law s said.domain said.entities are_of chosen.other_names g).1 (
+              schema_named h s chosen.other_names f ∙ whole.0,
               all_spelt h s said.domain said.entities f.sections whole.1,
               all.0,
             );

@@ -17,7 +17,7 @@ use Rattle.schema_semantics.specs.Attributes.{Place}
 use Rattle.conformance.specs.Bases.{Base, Domain, base}
 use Rattle.conformance.specs.ParameterFits.{count, is_entity, is_star_or_dollar, inner}
 use Rattle.conformance.specs.Entities.{Entities, named_entity, records, parameters, own_places_of, types_of, places_of, how_many, has_count, unknown_entities, wrong_counts, is_derived, data_types}
-use Rattle.conformance.specs.Findings.{names_schema, schema_text, heading_names, is_of_schema}
+use Rattle.conformance.specs.Findings.{names_one, file_names, schema_text, heading_names, is_of_schema}
 use Rattle.conformance.specs.ValueSpellings.{WordSpelt, IsSpelt, EachSpelt}
 use Rattle.conformance.specs.RecordSpellings.{GivenSpelt, AreSpelt, IsRowSpelt}
 use Rattle.merge_theorems.proofs.Values.{upper_upper, tree, trees_of, record_of, form_of, row_of, given_led, types_led, places_led}
@@ -143,11 +143,13 @@ module _ (h : ℕ → ℕ) where
           rows_spelt x.rows (rows_of (normal_sections (merged_sections h xs))) (front x.rows (rows_of xs) f)
           (all_spelt xs (back x.rows (rows_of xs) f))
 
-  headings : (n : Name) (xs : List Section)
-      → list_all (λ (x : Section). heading_names n x.heading) (normal_sections (merged_sections h xs))
-      ≡ list_all (λ (x : Section). heading_names n x.heading) xs
-  headings n [] = refl
-  headings n (x ∷ xs) = ap (λ b. heading_names n x.heading && b) (headings n xs)
+  headings : (names : List Name) (xs : List Section)
+      → list_all (λ (x : Section). heading_names names x.heading) (normal_sections (merged_sections h xs))
+      ≡ list_all (λ (x : Section). heading_names names x.heading) xs
+  headings names [] = refl
+  headings names (x ∷ xs) = ap (λ b. heading_names names x.heading && b) (headings names xs)
 
-  pub schema_named : (s : Schema) (f : File) → is_of_schema s (normal_file (merged_file h f)) ≡ is_of_schema s f
-  schema_named s f = ap (λ b. names_schema s.name (schema_text f.header) && b) (headings s.name f.sections)
+  pub schema_named : (s : Schema) (others : List Name) (f : File)
+      → is_of_schema s others (normal_file (merged_file h f)) ≡ is_of_schema s others f
+  schema_named s others f =
+      ap (λ b. names_one (file_names s others) (schema_text f.header) && b) (headings (file_names s others) f.sections)

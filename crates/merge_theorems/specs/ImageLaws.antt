@@ -7,7 +7,8 @@ use Rattle.value_equality.specs.ValueEquality.{IsValueEquality}
 use Rattle.express_syntax.specs.Schemas.{Schema}
 use Rattle.express_syntax.specs.Profile.{Every}
 use Rattle.schema_semantics.specs.Names.{Among}
-use Rattle.conformance.specs.Choices.{Mergeable}
+use Rattle.schema_semantics.specs.Names.{Name}
+use Rattle.conformance.specs.Choices.{MergeOptions}
 use Rattle.conformance.specs.Bases.{Domain}
 use Rattle.conformance.specs.Entities.{Entities}
 use Rattle.conformance.specs.Findings.{findings}
@@ -32,8 +33,8 @@ KeywordsStandOnce = (f : File) → FitsFile the_rules f → Every HasKeywordsOnc
 
 -- The instances of a file without findings are laid out, if no keyword occurs twice in one of them.
 abbrev pub FilesAreLaidOut : Type 0
-FilesAreLaidOut = (s : Schema) (d : Domain) (en : Entities) → AreOf s d en → (f : File)
-    → findings s d en f ≡ [] → Every HasKeywordsOnce (rows_of f.sections)
+FilesAreLaidOut = (s : Schema) (d : Domain) (en : Entities) → AreOf s d en
+    → (others : List Name) (f : File) → findings s d en others f ≡ [] → Every HasKeywordsOnce (rows_of f.sections)
     → Every (IsLaidOut s) (population_of s d en f)
 
 -- If rows are mapped so, h maps their instances to instances of the image and reaches each of
@@ -48,7 +49,7 @@ ImagesOfRowsAreLed = (s : Schema) (is js : List Instance) (P Q : List Row) (h : 
 -- weak pins. Then the instances of the image conform and break no rule (of uniqueness, of inverse
 -- attributes or of a domain), if the original instances conform and break none.
 abbrev pub ImagesOfRowsConform : Type 0
-ImagesOfRowsConform = (s : Schema) (d : Domain) (en : Entities) (rules : Rules) (chosen : Mergeable)
+ImagesOfRowsConform = (s : Schema) (d : Domain) (en : Entities) (rules : Rules) (chosen : MergeOptions)
     (attributes : Attributes) → AreAttributes s rules.inverses attributes → (domain_rules : List DomainRule)
     (is js : List Instance) (P Q : List Row) (h : ℕ → ℕ) (weak pinned : ℕ → Bool) (E : ℕ → ℕ → Bool)
     → MapsRows s is js P Q h pinned

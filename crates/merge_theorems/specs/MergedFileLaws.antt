@@ -9,7 +9,8 @@ use Rattle.value_equality.specs.Rows.{Row, names, IsPopulation, BagsArePinned}
 use Rattle.value_equality.specs.ValueEquality.{IsValueEquality, IsCongruence}
 use Rattle.value_equality.specs.Images.{IsImage, head_of, quotient}
 use Rattle.value_equality.specs.Tables.{Table, shares, HasMembers}
-use Rattle.conformance.specs.Choices.{Mergeable}
+use Rattle.schema_semantics.specs.Names.{Name}
+use Rattle.conformance.specs.Choices.{MergeOptions}
 use Rattle.conformance.specs.PlainRows.{AreRowsOf}
 use Rattle.express_syntax.specs.Schemas.{Schema}
 use Rattle.conformance.specs.Bases.{Domain}
@@ -45,28 +46,31 @@ OutputsAreQuotients = (s : Schema) (said : Said s) (text header_bytes : List ℕ
     × AreRowsOf s (instances s said (normal_file (merged_file (head_by t) f))) (quotient P (shares t t.rounds))
     × IsImage P (quotient P (shares t t.rounds)) (head_by t) pinned × IsPopulation (quotient P (shares t t.rounds))
 
--- P are the rows of the instances of a file that is read and conforms
-pub record AreRowsOfFile (s : Schema) (said : Said s) (f : File) (P : List Row) : Type 0 where
+-- P are the rows of the instances of a file that is read, that may call the schema by these other names, and that
+-- conforms
+pub record AreRowsOfFile (s : Schema) (said : Said s) (others : List Name) (f : File) (P : List Row) : Type 0 where
   pub fits : FitsFile the_rules f
   pub rows : AreRowsOf s (instances s said f) P
   pub population : IsPopulation P
-  pub conforms : FileConforms s said f
+  pub conforms : FileConforms s said others f
 
 -- If a file is merged by a congruence under gentle pins, the merged file conforms, its rows are
 -- those of the quotient, and the quotient is an image.
 abbrev pub MergedFilesConform : Type 0
-MergedFilesConform = (s : Schema) (said : Said s) (chosen : Mergeable) (f : File) (P : List Row) (pinned : ℕ → Bool)
-    (F : ℕ → ℕ → Bool) → AreRowsOfFile s said f P → ArePins s said chosen (instances s said f) P pinned
+MergedFilesConform = (s : Schema) (said : Said s) (chosen : MergeOptions) (f : File) (P : List Row) (pinned : ℕ → Bool)
+    (F : ℕ → ℕ → Bool) → AreRowsOfFile s said chosen.other_names f P
+    → ArePins s said chosen (instances s said f) P pinned
     → IsCongruence P pinned F
-    → FileConforms s said (merged_by P F f)
+    → FileConforms s said chosen.other_names (merged_by P F f)
     × AreRowsOf s (instances s said (merged_by P F f)) (quotient P F)
     × IsImage P (quotient P F) (head_of (names P) F) pinned × IsPopulation (quotient P F)
 
 -- Each reference in a bag of more than one value names a pinned instance. So if a file is merged by
 -- value equality, no image has fewer instances.
 abbrev pub MergedFilesAreLeast : Type 0
-MergedFilesAreLeast = (s : Schema) (said : Said s) (chosen : Mergeable) (f : File) (P : List Row) (pinned : ℕ → Bool)
-    (F : ℕ → ℕ → Bool) → AreRowsOfFile s said f P → ArePins s said chosen (instances s said f) P pinned
+MergedFilesAreLeast = (s : Schema) (said : Said s) (chosen : MergeOptions) (f : File) (P : List Row) (pinned : ℕ → Bool)
+    (F : ℕ → ℕ → Bool) → AreRowsOfFile s said chosen.other_names f P
+    → ArePins s said chosen (instances s said f) P pinned
     → IsValueEquality P pinned F
     → BagsArePinned P pinned
     × (length (rows_of (merged_by P F f).sections) ≡ length (quotient P F))

@@ -4,7 +4,7 @@ use Rattle.value_equality.specs.Rows.{Row, IsPopulation}
 use Rattle.value_equality.specs.Tables.{Table, shares, IsValid}
 use Rattle.express_syntax.specs.Schemas.{Schema}
 use Rattle.schema_semantics.specs.Names.{OneOf}
-use Rattle.conformance.specs.Choices.{Mergeable}
+use Rattle.conformance.specs.Choices.{MergeOptions}
 use Rattle.conformance.specs.Populations.{Instance}
 use Rattle.conformance.specs.Rules.{Rules, AreRules}
 use Rattle.conformance.specs.Pins.{StandsBesideItsClass, IsWeaklyPinned}
@@ -15,7 +15,7 @@ use Rattle.merge_theorems.specs.FilePins.{ArePins}
 -- of a LIST or ARRAY OF UNIQUE that has another instance of its class beside it, by a table that is
 -- valid under the weak pins. Then the second test is that of the pins.
 abbrev pub PinsAreFound : Type 0
-PinsAreFound = (s : Schema) (said : Said s) (chosen : Mergeable) (is : List Instance) (P : List Row) (rules : Rules)
+PinsAreFound = (s : Schema) (said : Said s) (chosen : MergeOptions) (is : List Instance) (P : List Row) (rules : Rules)
     (weak gentle : ℕ → Bool) (t : Table) → AreRules s said.domain rules → IsPopulation P
     → ((y : ℕ) → IsTrue (weak y) ↔ IsWeaklyPinned s said.domain said.entities rules chosen is y)
     → IsValid P weak t

@@ -3,8 +3,6 @@ use Rattle.std.specs.Prelude.{◌≡◌, ℕ, ◌&&◌, Bool, false, List, [], �
 use Rattle.std.specs.List.{list_all}
 use Rattle.std.proofs.Common.{refl, sym, ap, ◌∙◌}
 use Rattle.step_literals.specs.declared.literal.Text.{Text}
-use Rattle.step_literals.specs.declared.literal.Word.{Word}
-use Rattle.step_literals.specs.Words.{upper}
 use Rattle.step_structures.specs.Words.{string}
 use Rattle.step_structures.specs.Trees.{Tree, leaf, typed, group, Trees, none, one, Record}
 use Rattle.step_structures.specs.Trees as trees
@@ -16,8 +14,9 @@ use Rattle.step_exchange.specs.declared.structure.Exchange.{Exchange}
 use Rattle.step_exchange.specs.Exchanges.{structure}
 use Rattle.step_exchange.specs.Views.{record_in, rows_with}
 use Rattle.step_exchange.proofs.SchemaNames.{values_behind}
-use Rattle.conformance.specs.Findings.{string_in, schema_text, names_schema, heading_names}
-use Rattle.population_findings.specs.steps.SchemaNames.{headings_name, names_the_schema}
+use Rattle.schema_semantics.specs.Names.{Name}
+use Rattle.conformance.specs.Findings.{string_in, schema_text, names_one, heading_names}
+use Rattle.population_findings.specs.steps.SchemaNames.{headings_name}
 use Rattle.population_findings.proofs.Spelling.{no-string, same-headings}
 
 -- the string in a list
@@ -99,24 +98,27 @@ module _ (xs : List Tree) (x : Tree) (at : slice_get xs 2 ≡ Some x) (parts val
           ∙ ap (λ w. string_alone (w ∷ [])) (sym is ∙ ap node_value e)
 
 -- the schema of a structure
-module _ (w : Word) (x : Exchange) (header : List Tree) (front : header ≡ take x.header_len x.trees) where
+module _ (names : List Name) (x : Exchange) (header : List Tree) (front : header ≡ take x.header_len x.trees) where
   header-text : schema_text (structure x).header ≡ schema_text (map record_in header)
   header-text = ap (λ l. schema_text (map record_in l)) (sym front)
 
-  pub unnamed : schema_text (map record_in header) ≡ [] → false ≡ names_the_schema (upper w.text.now) (structure x)
+  pub unnamed : schema_text (map record_in header) ≡ []
+      → false ≡ (names_one names (schema_text (structure x).header)
+      && list_all (λ (y : trees.Section). heading_names names y.heading) (structure x).sections)
   unnamed e =
-      sym (ap (λ b. b && list_all (λ (y : trees.Section). heading_names (upper w.text.now) y.heading)
-      (structure x).sections) (no-string w (schema_text (structure x).header) (header-text ∙ e)))
+      sym (ap (λ b. b && list_all (λ (y : trees.Section). heading_names names y.heading)
+      (structure x).sections) (no-string names (schema_text (structure x).header) (header-text ∙ e)))
 
-  rest-is : list_all (λ (y : trees.Section). heading_names (upper w.text.now) y.heading) (structure x).sections
-      ≡ headings_name (upper w.text.now) x.sections.items
-  rest-is = same-headings (upper w.text.now) 0 x.sections.items (rows_with x.names (drop x.header_len x.trees))
+  rest-is : list_all (λ (y : trees.Section). heading_names names y.heading) (structure x).sections
+      ≡ headings_name names x.sections.items
+  rest-is = same-headings names 0 x.sections.items (rows_with x.names (drop x.header_len x.trees))
 
   pub named : (t : Text) → schema_text (map record_in header) ≡ t.text.now → (a : Bool)
-      → a ≡ names_schema (upper w.text.now) t.text.now
-      → (a && headings_name (upper w.text.now) x.sections.items) ≡ names_the_schema (upper w.text.now) (structure x)
+      → a ≡ names_one names t.text.now
+      → (a && headings_name names x.sections.items) ≡ (names_one names (schema_text (structure x).header)
+      && list_all (λ (y : trees.Section). heading_names names y.heading) (structure x).sections)
   named t e a h =
       (λ i. h i && sym rest-is i)
-      ∙ ap (λ l. names_schema (upper w.text.now) l
-      && list_all (λ (y : trees.Section). heading_names (upper w.text.now) y.heading) (structure x).sections)
+      ∙ ap (λ l. names_one names l
+      && list_all (λ (y : trees.Section). heading_names names y.heading) (structure x).sections)
       (sym (header-text ∙ e))

@@ -6,6 +6,7 @@ use Rattle.std.proofs.lemmas.Bool.{and_parts, eqb-true}
 use Rattle.step_structures.specs.Trees.{Record, ExchangeRow, internal, external}
 use Rattle.step_structures.specs.Trees as trees
 use Rattle.express_syntax.specs.Schemas.{Schema}
+use Rattle.schema_semantics.specs.Names.{Name}
 use Rattle.conformance.specs.declared.finding.Finding.{Finding}
 use Rattle.conformance.specs.declared.finding.FindingKind.{FindingKind}
 use Rattle.conformance.specs.declared.finding.FindingKind.TheVariants.{UnknownEntity, ParameterCount}
@@ -18,8 +19,6 @@ use Rattle.population_forms.specs.steps.Forms.{IsFormOf, counts_of}
 use Rattle.population_findings.specs.steps.Keywords.{unknown_among}
 use Rattle.graphs.specs.Graphs.{graph_of}
 use Rattle.population_rows.specs.Index.{found}
-use Rattle.step_literals.specs.Words.{upper}
-use Rattle.step_literals.specs.declared.literal.Word.{Word}
 use Rattle.step_exchange.specs.declared.structure.Exchange.{Exchange}
 use Rattle.step_exchange.specs.Exchanges.{structure}
 use Rattle.population_findings.specs.steps.Rows.{rows_in, AreRowsOf, HaveForms, HasFormAmong}
@@ -204,18 +203,17 @@ three-told old a b new x y z e f g =
     g ∙ ap (λ l. l ++ z) (f ∙ ap (λ l. l ++ y) e ∙ append_assoc old x y) ∙ append_assoc old (x ++ y) z
 
 -- the findings of a file: that about the schema's name, then those of its instances
-pub all-told : (j : Judge) (d : Domain) (en : Entities) (t : Rows) (x : Exchange) (name : Word) (rows : List ExchangeRow)
-    (first fs : List Finding) → (the_schema j.bases.names.now).name ≡ upper name.text.now → rows ≡ rows_in x
-    → first ≡ schema_told (upper name.text.now) (structure x)
+pub all-told : (j : Judge) (d : Domain) (en : Entities) (t : Rows) (x : Exchange) (others : List Name)
+    (rows : List ExchangeRow) (first fs : List Finding) → rows ≡ rows_in x
+    → first ≡ schema_told (the_schema j.bases.names.now) others (structure x)
     → TellsRows j t rows first fs → AreOf j d en → AreRowsOf (the_schema j.bases.names.now) en (rows_in x) t
     → j.targets.index.now ≡ t.index → j.targets.forms.now ≡ t.form_of.items → j.targets.types.now ≡ t.types.items
-    → fs ≡ findings (the_schema j.bases.names.now) d en (structure x)
-all-told j d en t x name rows first fs called same told tells are of index forms types =
+    → fs ≡ findings (the_schema j.bases.names.now) d en others (structure x)
+all-told j d en t x others rows first fs same told tells are of index forms types =
     let s = the_schema j.bases.names.now in
     let have = subst (λ rs. HaveForms s en t rs t.form_of.items) (sym same) of.forms in
     let leads : target_by j ≡ target_in s d en (rows_in x) =
     target-is s d en t j.targets (of.types ∙ ap graph_of (sym types)) (rows_in x) of.forms
     (λ y. ap (λ i. found i y) index ∙ of.index y) forms in
     tells d en are have
-    ∙ (λ i. (told ∙ ap (λ n. schema_told n (structure x)) (sym called)) i
-    ++ flat_map (row_findings s d en (leads i)) (same i))
+    ∙ (λ i. told i ++ flat_map (row_findings s d en (leads i)) (same i))

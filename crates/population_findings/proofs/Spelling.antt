@@ -3,22 +3,18 @@ use Rattle.std.specs.Prelude.{◌≡◌, ℕ, suc, ◌+◌, ◌-◌, ◌<◌, �
 use Rattle.std.specs.List.{list_all, take_while, prefix_len}
 use Rattle.std.specs.Char.{to_ascii_uppercase}
 use Rattle.std.proofs.Common.{refl, ap, ◌∙◌, arith}
-use Rattle.std.proofs.Math.Logic.{∥∥₁_elim}
-use Rattle.std.proofs.Math.Bool.{Bool-set}
 use Rattle.std.proofs.Math.ListN.{drop_of_length-le}
 use Rattle.step_literals.specs.Words.{upper}
-use Rattle.step_literals.specs.Tokens.{IsKeyword}
 use Rattle.step_literals.specs.Items.{string_items}
 use Rattle.step_literals.specs.declared.literal.items.Item.{Item}
 use Rattle.step_literals.specs.declared.literal.items.Item.TheVariants.{Code, Page, Raw}
-use Rattle.step_literals.specs.declared.literal.Word.{Word}
 use Rattle.step_structures.specs.Trees.{ExchangeRow}
 use Rattle.step_structures.specs.Trees as trees
 use Rattle.step_exchange.specs.declared.section.Section.{Section}
 use Rattle.step_exchange.specs.Sections.{sections_of, heading_of}
 use Rattle.step_exchange.proofs.Cuts.{drop_next}
 use Rattle.schema_semantics.specs.Names.{Name}
-use Rattle.conformance.specs.Findings.{code_of, ends_name, or_zero, names_schema, heading_names}
+use Rattle.conformance.specs.Findings.{code_of, ends_name, or_zero, names_schema, names_one, heading_names}
 use Rattle.population_findings.specs.steps.SchemaNames.{is_next, names_so, headings_name}
 
 while-next : {X : Type 0} (p : X → Bool) (x : X) (xs : List X) → take_while p (x ∷ xs)
@@ -92,19 +88,33 @@ ends-so (Code c) = refl
 ends-so (Page p c) = refl
 ends-so (Raw b) = refl
 
--- a name isn't empty
-pub no-string : (w : Word) (text : List ℕ) → text ≡ [] → names_schema (upper w.text.now) text ≡ false
+-- no string names no schema
+pub no-string : (names : List Name) (text : List ℕ) → text ≡ [] → names_one names text ≡ false
 unfolding string_items
-no-string w text e =
-    ap (names_schema (upper w.text.now)) e ∙ ∥∥₁_elim w.spelled (Bool-set _ _) (λ k. by w.text.now k)
+no-string names text e = ap (names_one names) e ∙ by names
   where
-    by : (t : List ℕ) → IsKeyword t → names_schema (upper t) [] ≡ false
-    by [] k = absurd k
-    by (b ∷ bs) k = refl
+    of-one : (n : Name) → names_schema n [] ≡ false
+    of-one [] = refl
+    of-one (b ∷ bs) = refl
+
+    by : (ns : List Name) → names_one ns [] ≡ false
+    by [] = refl
+    by (n ∷ ns) = ap (λ b. b || names_one ns []) (of-one n) ∙ by ns
+
+-- a name that isn't empty is named by what spells it
+pub named-so : (t : List ℕ) (text : List ℕ) → bytes_eq t [] ≡ false
+    → names_so t (string_items text) ≡ names_schema (upper t) text
+named-so [] text e = absurd (cc)
+named-so (b ∷ bs) text e = refl
+
+-- an empty name names no schema
+pub empty-names-none : (t : List ℕ) (text : List ℕ) → bytes_eq t [] ≡ true → false ≡ names_schema (upper t) text
+empty-names-none [] text e = refl
+empty-names-none (b ∷ bs) text e = absurd (cc)
 
 -- the headings of sections
-pub same-headings : (n : Name) (from : ℕ) (ss : List Section) (rows : List ExchangeRow)
-    → list_all (λ (x : trees.Section). heading_names n x.heading) (sections_of from ss rows) ≡ headings_name n ss
-same-headings n from [] rows = refl
-same-headings n from (s ∷ ss) rows =
-    ap (λ b. heading_names n (heading_of s.heading) && b) (same-headings n s.past ss (drop (s.past - from) rows))
+pub same-headings : (names : List Name) (from : ℕ) (ss : List Section) (rows : List ExchangeRow)
+    → list_all (λ (x : trees.Section). heading_names names x.heading) (sections_of from ss rows) ≡ headings_name names ss
+same-headings names from [] rows = refl
+same-headings names from (s ∷ ss) rows =
+    ap (λ b. heading_names names (heading_of s.heading) && b) (same-headings names s.past ss (drop (s.past - from) rows))

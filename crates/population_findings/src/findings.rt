@@ -1,11 +1,12 @@
 //! All findings of a file, in order.
 
 ghost use Rattle.std.specs.Prelude.{◌≡◌, ◌++◌, IfOk, OnOk};
-ghost use Rattle.express_syntax.specs.ExpressionViews.{capitals};
+ghost use Rattle.express_syntax.specs.SchemaViews.{schema_of};
 ghost use Rattle.step_exchange.specs.Exchanges.{structure};
 ghost use Rattle.step_exchange.specs.Views.{form_in, form_of, rows_with};
 ghost use Rattle.conformance.specs.Bases.{Domain, IsDomain};
 ghost use Rattle.conformance.specs.Entities.{Entities, AreEntities};
+ghost use Rattle.conformance.specs.OtherNames.{other_names};
 ghost use Rattle.conformance.specs.Findings.{findings};
 ghost use Rattle.schema_names.specs.Schemas.{the_schema};
 ghost use Rattle.schema_underlying_types.specs.Tables.{AreBases};
@@ -29,6 +30,7 @@ use crate::keywords::unknown_entities;
 use crate::misfits::tell_misfits;
 use crate::schema_name::is_of_schema;
 use conformance::finding::{Finding, FindingKind, Spot};
+use express_syntax::tree::SchemaTree;
 use parameter_fits::targets::Targets;
 use population_forms::forms::entities_are_said;
 use population_forms::knowledge::Knowledge;
@@ -37,7 +39,6 @@ use population_rows::rows::{Rows, form_at};
 use schema_underlying_types::lookup::Bases;
 use std::alloc::{AllocError, Global};
 use step_exchange::structure::Exchange;
-use step_literals::literal::Word;
 use step_records::param::{Param, Params};
 
 /// Returns the targets of references in a file with `rows`.
@@ -53,16 +54,16 @@ fn targets_in(rows: &Rows) -> Targets<'_>
     }
 }
 
-/// Adds a finding if `exchange` isn't a structure of the schema called `name`.
+/// Adds a finding if `exchange` isn't a structure of `schema`.
 fn tell_schema(
     found: &mut Vec<Finding>,
-    name: Word<'_>,
+    schema: &SchemaTree<'_>,
     exchange: &Exchange<'_>,
 ) -> Result<(), AllocError>
-    ensures { OnOk result (found.new.items
-        ≡ found.old.items ++ schema_told (capitals name.entry) (structure exchange.now)) }
+    ensures { OnOk result (found.new.items ≡ found.old.items
+        ++ schema_told (schema_of schema.now) (other_names schema.now) (structure exchange.now)) }
 {
-    if is_of_schema(name, exchange) {
+    if is_of_schema(schema, exchange) {
         return Ok(());
     }
     found.push(Finding {
@@ -185,14 +186,14 @@ pub fn findings(
     requires same { known.now.names.now.schema.now ≡ bases.now.names.now.schema.now }
     requires rows { (en : Entities) → AreEntities (the_schema known.now.names.now) en
         → AreRowsOf (the_schema known.now.names.now) en (rows_in exchange.now) rows.now }
-    ensures { IfOk result (λ fs. (d : Domain) → (en : Entities)
-        → IsDomain (the_schema known.now.names.now) d
-        → AreEntities (the_schema known.now.names.now) en
-        → fs.items ≡ findings (the_schema known.now.names.now) d en (structure exchange.now)) }
+    ensures { let s = the_schema known.now.names.now in
+        let others = other_names known.now.names.now.schema.now in
+        IfOk result (λ fs. (d : Domain) → (en : Entities) → IsDomain s d → AreEntities s en
+        → fs.items ≡ findings s d en others (structure exchange.now)) }
 {
     entities_are_said(known);
     let mut found = Vec::new(alloc);
-    tell_schema(&mut found, bases.names.schema.name, exchange)?;
+    tell_schema(&mut found, bases.names.schema, exchange)?;
     let targets = targets_in(rows);
     let judge = Judge {
         alloc,

@@ -1,23 +1,35 @@
 //! The schema names in an exchange structure.
 
-ghost use Rattle.std.specs.Prelude.{◌≡◌, ◌==◌, ◌||◌, map, drop};
+ghost use Rattle.std.specs.Prelude.{◌≡◌, ◌==◌, ◌||◌, map, drop, string_bytes};
 ghost use Rattle.std.specs.Char.{to_ascii_uppercase};
-ghost use Rattle.express_syntax.specs.ExpressionViews.{capitals};
+ghost use Rattle.step_literals.specs.Words.{upper};
+ghost use Rattle.step_literals.specs.Items.{string_items};
+ghost use Rattle.express_syntax.specs.SchemaViews.{schema_of};
 ghost use Rattle.step_exchange.specs.Views.{record_in};
 ghost use Rattle.step_exchange.specs.Sections.{heading_of};
 ghost use Rattle.step_exchange.specs.Exchanges.{structure};
-ghost use Rattle.conformance.specs.Findings.{code_of, or_zero, names_schema, heading_names};
+ghost use Rattle.conformance.specs.OtherNames.{other_names};
+ghost use Rattle.conformance.specs.Findings.{
+  code_of,
+  or_zero,
+  names_schema,
+  names_one,
+  heading_names,
+  is_of_schema,
+};
 ghost use Rattle.population_findings.specs.steps.SchemaNames.{
   IsAlone,
   IsSchemaText,
   headings_name,
   is_next,
-  names_the_schema,
+  names_in_files,
+  names_so,
 };
 
+use express_syntax::tree::SchemaTree;
 use step_exchange::section::Section;
 use step_exchange::structure::Exchange;
-use step_literals::literal::{Item, Text, Word};
+use step_literals::literal::{Item, Text};
 use step_records::param::{Node, Param, Params};
 
 /// Returns the code of a character of ISO 10646, and 0 for any other item.
@@ -56,13 +68,12 @@ fn is_next(item: Item, byte: u8) -> bool
     !ends_name(character) && raised(character) == raised(u32::from(byte))
 }
 
-/// Whether `text` names the schema called `name`. Case is ignored, and an object identifier may
-/// follow.
-fn names_schema(name: Word<'_>, text: Text<'_>) -> bool
-    ensures { result ≡ names_schema (capitals name.entry) text.entry.text.now }
+/// Whether `text` spells `name`. Case is ignored, and an object identifier may follow.
+fn spells(name: &[u8], text: Text<'_>) -> bool
+    ensures { result ≡ names_so name.now (string_items text.entry.text.now) }
 {
     let mut items = text.items();
-    for byte in name.spelling() {
+    for byte in name {
         let Some(item) = items.next() else {
             return false;
         };
@@ -74,6 +85,28 @@ fn names_schema(name: Word<'_>, text: Text<'_>) -> bool
         Some(item) => ends_name(character(item)),
         None => true,
     }
+}
+
+/// Whether `text` names the schema called `name`. Case is ignored, and an object identifier may
+/// follow. An empty name is no schema's.
+fn names_schema(name: &[u8], text: Text<'_>) -> bool
+    ensures { result ≡ names_schema (upper name.now) text.entry.text.now }
+{
+    !name.is_empty() && spells(name, text)
+}
+
+/// Whether `text` calls a schema by one of these `names`.
+fn names_other(names: &[String], text: Text<'_>) -> bool
+    ensures { result ≡ names_one (map upper (map string_bytes names.now)) text.entry.text.now }
+{
+    names.iter().any(|name| names_schema(name.as_bytes(), text))
+}
+
+/// Whether `text` calls `schema` by its own name or by one of its other names.
+fn names_one(schema: &SchemaTree<'_>, text: Text<'_>) -> bool
+    ensures { result ≡ names_one (names_in_files schema.now) text.entry.text.now }
+{
+    names_schema(schema.name.spelling(), text) || names_other(&schema.other_names, text)
 }
 
 /// Returns the only element of `params`; `None` if there isn't exactly one.
@@ -107,36 +140,37 @@ fn schema_text<'a>(header: &Params<'a, '_>) -> Option<Text<'a>>
     }
 }
 
-/// Whether a data section names the schema called `name`, or none (ISO 10303-21, 11.1).
-fn heading_names(name: Word<'_>, heading: Option<(Text<'_>, Text<'_>)>) -> bool
-    ensures { result ≡ heading_names (capitals name.entry) (heading_of heading.entry) }
+/// Whether a data section calls `schema` by one of its names, or names none (ISO 10303-21, 11.1).
+fn heading_names(schema: &SchemaTree<'_>, heading: Option<(Text<'_>, Text<'_>)>) -> bool
+    ensures { result ≡ heading_names (names_in_files schema.now) (heading_of heading.entry) }
 {
     match heading {
-        Some((_, schema)) => names_schema(name, schema),
+        Some((_, text)) => names_one(schema, text),
         None => true,
     }
 }
 
-/// Whether each data section names the schema called `name`, or none.
-fn headings_name(name: Word<'_>, sections: &[Section<'_>]) -> bool
-    ensures { result ≡ headings_name (capitals name.entry) sections.now }
+/// Whether each data section calls `schema` by one of its names, or names none.
+fn headings_name(schema: &SchemaTree<'_>, sections: &[Section<'_>]) -> bool
+    ensures { result ≡ headings_name (names_in_files schema.now) sections.now }
 {
     for section in sections {
-        if !heading_names(name, section.heading) {
+        if !heading_names(schema, section.heading) {
             return false;
         }
     }
     true
 }
 
-/// Whether the header names the schema called `name`, and each data section that names a schema
-/// names that one.
-pub fn is_of_schema(name: Word<'_>, exchange: &Exchange<'_>) -> bool
-    ensures { result ≡ names_the_schema (capitals name.entry) (structure exchange.now) }
+/// Whether the header calls `schema` by its own name or by one of its other names, and each data
+/// section that names a schema does so too.
+pub fn is_of_schema(schema: &SchemaTree<'_>, exchange: &Exchange<'_>) -> bool
+    ensures { result ≡ is_of_schema (schema_of schema.now) (other_names schema.now)
+        (structure exchange.now) }
 {
     let (header, _) = exchange.trees.trees().split(exchange.header_len);
     let Some(text) = schema_text(&header) else {
         return false;
     };
-    names_schema(name, text) && headings_name(name, &exchange.sections)
+    names_one(schema, text) && headings_name(schema, &exchange.sections)
 }

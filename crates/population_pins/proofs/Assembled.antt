@@ -9,7 +9,7 @@ use Rattle.std.proofs.lemmas.Bool.{eqb-true, false≢true}
 use Rattle.express_syntax.specs.Schemas.{Schema}
 use Rattle.schema_semantics.specs.Names.{Name, OneOf, Among}
 use Rattle.schema_semantics.specs.Attributes.{Place}
-use Rattle.conformance.specs.Choices.{Mergeable}
+use Rattle.conformance.specs.Choices.{MergeOptions}
 use Rattle.conformance.specs.Bases.{Domain}
 use Rattle.conformance.specs.Entities.{Entities}
 use Rattle.conformance.specs.ParameterFits.{is_listed}
@@ -43,7 +43,7 @@ at-types y is P none h = by (instance_at is y) refl h
     by None e k = absurd (none k)
     by (Some x) e k = let (there, named) = at-some y is x e in (x, there, named, k)
 
-module _ (s : Schema) (d : Domain) (en : Entities) (rules : Rules) (chosen : Mergeable) (is : List Instance)
+module _ (s : Schema) (d : Domain) (en : Entities) (rules : Rules) (chosen : MergeOptions) (is : List Instance)
     (distinct : IsDistinct (◌==◌) (names is)) (y : ℕ) where
   abbrev ByForm : Instance → Type 0
   ByForm x = PinsByForm s en chosen rules.uniques y x

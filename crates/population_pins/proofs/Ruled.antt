@@ -12,7 +12,7 @@ use Rattle.schema_explicit_attributes.specs.Supertypes.{AreAbove}
 use Rattle.schema_explicit_attributes.specs.Places.{all_places}
 use Rattle.schema_explicit_attributes.proofs.Repeats.{AreOne}
 use Rattle.schema_underlying_types.specs.BaseViews.{name_at}
-use Rattle.conformance.specs.Choices.{Mergeable}
+use Rattle.conformance.specs.Choices.{MergeOptions}
 use Rattle.conformance.specs.Entities.{Entities, AreEntities}
 use Rattle.conformance.specs.ParameterFits.{is_listed}
 use Rattle.conformance.specs.Populations.{Instance}
@@ -32,7 +32,7 @@ use Rattle.population_pins.specs.declared.forms.Sources.{Sources}
 use Rattle.population_pins.proofs.Formed.{unchosen, states, in-keys}
 
 -- An instance of no type pins nothing.
-module _ (s : Schema) (en : Entities) (those : Mergeable) (y name section : ℕ) (vs : Values) where
+module _ (s : Schema) (en : Entities) (those : MergeOptions) (y name section : ℕ) (vs : Values) where
   not-stated : (uniques : List rules.UniqueRule) → OneOf (λ (u : rules.UniqueRule). IsTrue (is_listed u.entity [])) uniques → ⊥
   not-stated [] h = h
   not-stated (u ∷ uniques) (inl e) = absurd (cc)
@@ -57,7 +57,7 @@ module _ (s : Schema) (en : Entities) (those : Mergeable) (y name section : ℕ)
 
 module _ (s : Schema) (resolved : IsResolved s) (c : Sources) (above : AreAbove s (graph_of c.above.now))
     (uniques : Every (IsNumberedUnique s) c.uniques.now) (one : AreOne (all_places s)) (en : Entities)
-    (are : AreEntities s en) (those : Mergeable) (chosen : AreChosen s those c.chosen.now) (y name section : ℕ)
+    (are : AreEntities s en) (those : MergeOptions) (chosen : AreChosen s those c.chosen.now) (y name section : ℕ)
     (vs : Values) where
   abbrev All : List rules.UniqueRule
   All = map (unique_seen s) c.uniques.now

@@ -6,7 +6,7 @@ ghost use Rattle.schema_semantics.specs.Names.{OneOf};
 ghost use Rattle.schema_names.specs.Schemas.{the_schema};
 ghost use Rattle.schema_types.specs.TypeTables.{IsMade};
 ghost use Rattle.merge_choices.specs.ChosenEntities.{AreChosen};
-ghost use Rattle.conformance.specs.Choices.{Mergeable};
+ghost use Rattle.conformance.specs.Choices.{MergeOptions};
 ghost use Rattle.conformance.specs.Entities.{Entities, AreEntities};
 ghost use Rattle.conformance.specs.CollectionMembers.{InBag};
 ghost use Rattle.conformance.specs.Pins.{OccursAt};
@@ -121,7 +121,7 @@ pub(crate) fn pin_by_forms(
 ) -> Result<(), AllocError>
     requires made { IsMade population.now.types.now }
     requires numbered { AreNumbered (the_schema population.now.types.now.names) rules.now }
-    ensures { (en : Entities) (those : Mergeable)
+    ensures { (en : Entities) (those : MergeOptions)
         → AreEntities (the_schema population.now.types.now.names) en
         → AreChosen (the_schema population.now.types.now.names) those chosen.now
         → OnOk result (Pins (λ y. OneOf

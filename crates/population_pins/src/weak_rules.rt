@@ -4,7 +4,7 @@ ghost use Rattle.std.specs.Prelude.{ℕ, IsTrue, ◌↔◌, IfOk};
 ghost use Rattle.schema_names.specs.Schemas.{the_schema};
 ghost use Rattle.schema_types.specs.TypeTables.{IsMade};
 ghost use Rattle.conformance.specs.Bases.{Domain, IsDomain};
-ghost use Rattle.conformance.specs.Choices.{Mergeable};
+ghost use Rattle.conformance.specs.Choices.{MergeOptions};
 ghost use Rattle.conformance.specs.Entities.{Entities, AreEntities};
 ghost use Rattle.conformance.specs.Pins.{IsWeaklyPinned};
 ghost use Rattle.schema_constraints.specs.RuleViews.{AreNumbered, rules_seen};
@@ -42,18 +42,14 @@ pub fn pins(
     requires made { IsMade extents.now.population.now.types.now }
     requires numbered { AreNumbered
         (the_schema extents.now.population.now.types.now.names) extents.now.rules.now }
-    ensures pins { (d : Domain) (en : Entities) (those : Mergeable)
-        → IsDomain (the_schema extents.now.population.now.types.now.names) d
-        → AreEntities (the_schema extents.now.population.now.types.now.names) en
-        → AreChosen (the_schema extents.now.population.now.types.now.names) those chosen.now
-        → IfOk result (λ t. (y : ℕ) → IsTrue (is_pinned t.pins y) ↔ IsWeaklyPinned
-        (the_schema extents.now.population.now.types.now.names) d en
-        (rules_seen (the_schema extents.now.population.now.types.now.names)
-        extents.now.rules.now) those (population_seen extents.now.population.now) y) }
+    ensures pins { let s = the_schema extents.now.population.now.types.now.names in
+        (d : Domain) (en : Entities) (those : MergeOptions) → IsDomain s d → AreEntities s en
+        → AreChosen s those chosen.now → IfOk result (λ t. (y : ℕ) → IsTrue (is_pinned t.pins y)
+        ↔ IsWeaklyPinned s d en (rules_seen s extents.now.rules.now) those
+        (population_seen extents.now.population.now) y) }
     // Whatever the classes of instances, these lists decide the gentle rules.
-    ensures lists { IfOk result (λ t. AreUniqueOf
-        (the_schema extents.now.population.now.types.now.names)
-        (population_seen extents.now.population.now) t.lists) }
+    ensures lists { let s = the_schema extents.now.population.now.types.now.names in
+        IfOk result (λ t. AreUniqueOf s (population_seen extents.now.population.now) t.lists) }
 {
     let population = extents.population;
     let mut names = Vec::new(alloc);

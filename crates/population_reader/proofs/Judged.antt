@@ -135,7 +135,7 @@ module _ (s : Schema) (d : Domain) (en : Entities) where
         have-length s en t (rows_in x) t.form_of.items rows.forms
         ∙ sym (names-length (rows_in x)) ∙ ap length (names-are x)
 
-    module _ (none : findings s d en (structure x) ≡ []) where
+    module _ (others : List Name) (none : findings s d en others (structure x) ≡ []) where
       clean : AreClean s d en targets (found t.index) leads t.forms.items (rows_in x) t.form_of.items
       unfolding targets
       clean = rows-clean s d en targets (found t.index) leads t (rows_in x) t.form_of.items rows.forms (last-none _ _ none)

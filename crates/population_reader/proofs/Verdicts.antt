@@ -12,6 +12,7 @@ use Rattle.population_rows.specs.Index.{found}
 use Rattle.schema_underlying_types.specs.declared.lookup.Bases.{Bases}
 use Rattle.schema_underlying_types.specs.Tables.{AreBases}
 use Rattle.conformance.specs.declared.finding.Finding.{Finding}
+use Rattle.conformance.specs.OtherNames.{other_names}
 use Rattle.conformance.specs.Bases.{Domain, IsDomain}
 use Rattle.conformance.specs.Entities.{Entities, AreEntities}
 use Rattle.conformance.specs.Findings.{findings}
@@ -65,14 +66,15 @@ module _ (n : Names) (k : Knowledge) (b : Bases) (x : Exchange) (t : Rows) (same
   matched-is = as-many-forms (the_schema n) d-is.0 en-is.0 x t are-rows
 
   module _ (fs : List Finding) (told : (d : Domain) → (en : Entities) → IsDomain (the_schema k.names.now) d
-      → AreEntities (the_schema k.names.now) en → fs ≡ findings (the_schema k.names.now) d en (structure x)) where
+      → AreEntities (the_schema k.names.now) en
+      → fs ≡ findings (the_schema k.names.now) d en (other_names k.names.now.schema.now) (structure x)) where
     pub told-so : (d : Domain) (en : Entities) → IsDomain (the_schema n) d → AreEntities (the_schema n) en
-        → fs ≡ findings (the_schema n) d en (structure x)
+        → fs ≡ findings (the_schema n) d en (other_names n.schema.now) (structure x)
     told-so =
         subst (λ m. (d : Domain) → (en : Entities) → IsDomain (the_schema m) d → AreEntities (the_schema m) en
-        → fs ≡ findings (the_schema m) d en (structure x)) same told
+        → fs ≡ findings (the_schema m) d en (other_names m.schema.now) (structure x)) same told
 
-    none-so : fs ≡ [] → findings (the_schema n) d-is.0 en-is.0 (structure x) ≡ []
+    none-so : fs ≡ [] → findings (the_schema n) d-is.0 en-is.0 (other_names n.schema.now) (structure x) ≡ []
     none-so none = sym (told-so d-is.0 en-is.0 d-is.1 en-is.1) ∙ none
 
     module _ (none : fs ≡ []) where
@@ -80,7 +82,8 @@ module _ (n : Names) (k : Knowledge) (b : Bases) (x : Exchange) (t : Rows) (same
       ready-is =
           subst (λ m. AreRowsReady (the_schema m) (found t.index) t.forms.items (rows_in x) t.form_of.items)
           (sym same-bases)
-          (rows-are-ready (the_schema n) d-is.0 en-is.0 x t are-rows (none-so none) resolved-is en-is.1)
+          (rows-are-ready (the_schema n) d-is.0 en-is.0 x t are-rows (other_names n.schema.now) (none-so none)
+          resolved-is en-is.1)
 
       module _ (now : Kept) (made : (d : Domain) → IsDomain (the_schema b.names.now) d
           → now.rows ≡ rows_by (the_schema b.names.now) d t.forms.items (rows_in x) t.form_of.items)
@@ -93,21 +96,21 @@ module _ (n : Names) (k : Knowledge) (b : Bases) (x : Exchange) (t : Rows) (same
 
         whole-is : IsWhole (the_schema n) x.names t now
         whole-is =
-            all-whole (the_schema n) d-is.0 en-is.0 x t are-rows (none-so none) now (made-so d-is.0 d-is.1) leads refers
+            all-whole (the_schema n) d-is.0 en-is.0 x t are-rows (other_names n.schema.now) (none-so none) now (made-so d-is.0 d-is.1) leads refers
             resolved-is
 
         population-so : (d : Domain) (en : Entities) → IsDomain (the_schema n) d → AreEntities (the_schema n) en
             → instances_seen (the_schema n) t.forms.items x.names (section_numbers 0 0 x.sections.items)
             t.form_of.items now.rows ≡ population_of (the_schema n) d en (structure x)
         population-so d en domain entities =
-            seen-is (the_schema n) d en x t (rows-said en entities) (sym (told-so d en domain entities) ∙ none) now.rows
+            seen-is (the_schema n) d en x t (rows-said en entities) (other_names n.schema.now) (sym (told-so d en domain entities) ∙ none) now.rows
             (made-so d domain)
 
-        pub typed-so : IsTyped (the_schema n) (structure x) (typed_seen (the_schema n) x t now)
+        pub typed-so : IsTyped (the_schema n) (other_names n.schema.now) (structure x) (typed_seen (the_schema n) x t now)
         typed-so = (
           functions-are,
           λ d en domain entities. (sym (told-so d en domain entities) ∙ none, population-so d en domain entities),
         )
 
-        pub population-is : IsPopulation (the_schema n) x t now
+        pub population-is : IsPopulation (the_schema n) (other_names n.schema.now) x t now
         population-is = record { whole = whole-is; typed = typed-so }

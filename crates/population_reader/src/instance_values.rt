@@ -25,6 +25,8 @@ ghost use Rattle.population_reader.specs.steps.Making.{
   AreReady,
   IsRowReady,
   AreRowsReady,
+  AreReadyIn,
+  values_in,
   found_by,
   IsMaker,
   Adds,
@@ -221,11 +223,10 @@ pub fn values_of<'b, 'a>(
     requires bases { AreBases bases.now }
     requires index { AreFound exchange.now.names (found rows.now.index) }
     requires matched { length rows.now.form_of.items ≡ length exchange.now.names }
-    requires ready { AreRowsReady (the_schema bases.now.names.now) (found rows.now.index)
-        rows.now.forms.items (rows_in exchange.now) rows.now.form_of.items }
-    ensures rows { IfOk result (λ v. (d : Domain) → IsDomain (the_schema bases.now.names.now) d
-        → v.rows ≡ rows_by (the_schema bases.now.names.now) d rows.now.forms.items
-        (rows_in exchange.now) rows.now.form_of.items) }
+    requires ready { AreReadyIn (the_schema bases.now.names.now) rows.now exchange.now }
+    ensures rows { let s = the_schema bases.now.names.now in
+        IfOk result (λ v. (d : Domain) → IsDomain s d
+        → v.rows ≡ values_in s d rows.now exchange.now) }
     ensures leads { IfOk result (λ v. LeadTo exchange.now.names v.targets) }
     ensures refers { IfOk result (λ v. ReferTo exchange.now.names v.rows) }
 {

@@ -290,6 +290,7 @@ fn choice(alloc: Global, given: Given) -> Result<Choice, AllocError> {
     Ok(Choice {
         names,
         in_sets: false,
+        other_names: Vec::new(alloc),
         strict: false,
     })
 }

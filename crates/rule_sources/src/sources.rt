@@ -58,6 +58,14 @@ pub struct FormSources<'s> {
     pub rows: Vec<Vec<NamedSource<'s>>>,
 }
 
+/// The tables of a schema that find the source of an attribute's value.
+#[derive(Clone, Copy)]
+struct SourceTables<'i, 'r> {
+    sources: &'r AttributeSources,
+    /// The inverse attributes of the schema.
+    inverses: &'r [InverseAttribute<'i>],
+}
+
 /// Returns where instances of a form have the value of `source`. `positions` finds the explicit
 /// attributes of the form.
 fn form_source(positions: &RowIndex, source: Source) -> FormSource
@@ -80,19 +88,18 @@ fn form_source(positions: &RowIndex, source: Source) -> FormSource
 /// one.
 fn named_source<'s>(
     schema: &ResolvedTypes<'s, '_>,
-    sources: &AttributeSources,
-    inverses: &[InverseAttribute<'_>],
+    tables: &SourceTables<'_, '_>,
     form: &Form,
     positions: &RowIndex,
     name: Word<'s>,
 ) -> Option<NamedSource<'s>>
-    requires known { AreResolvedSources schema.now sources.now inverses.now }
+    requires known { AreResolvedSources schema.now tables.now.sources.now tables.now.inverses.now }
     requires numbered { AreNumbered (the_schema schema.now.names) form.now }
     requires positions { ArePositions form.now.slots.items positions.now }
     ensures { IfSome result (IsNamedSource (the_schema schema.now.names)
-        (inverses_seen (the_schema schema.now.names) inverses.now) form.now) }
+        (inverses_seen (the_schema schema.now.names) tables.now.inverses.now) form.now) }
 {
-    match attribute_source(schema, sources, inverses, &form.types, name) {
+    match attribute_source(schema, tables.sources, tables.inverses, &form.types, name) {
         Some(source) => Some(NamedSource {
             name,
             source: form_source(positions, source),
@@ -106,21 +113,20 @@ fn named_source<'s>(
 fn add_named<'s>(
     schema: &ResolvedTypes<'s, '_>,
     row: &mut Vec<NamedSource<'s>>,
-    sources: &AttributeSources,
-    inverses: &[InverseAttribute<'_>],
+    tables: &SourceTables<'_, '_>,
     form: &Form,
     positions: &RowIndex,
     name: Word<'s>,
 ) -> Result<(), AllocError>
-    requires known { AreResolvedSources schema.now sources.now inverses.now }
+    requires known { AreResolvedSources schema.now tables.now.sources.now tables.now.inverses.now }
     requires numbered { AreNumbered (the_schema schema.now.names) form.now }
     requires positions { ArePositions form.now.slots.items positions.now }
-    requires row { AreNamedSources (the_schema schema.now.names)
-        (inverses_seen (the_schema schema.now.names) inverses.now) form.now row.old.items }
-    ensures { OnOk result (AreNamedSources (the_schema schema.now.names)
-        (inverses_seen (the_schema schema.now.names) inverses.now) form.now row.new.items) }
+    requires row { let s = the_schema schema.now.names in
+        AreNamedSources s (inverses_seen s tables.now.inverses.now) form.now row.old.items }
+    ensures { let s = the_schema schema.now.names in OnOk result
+        (AreNamedSources s (inverses_seen s tables.now.inverses.now) form.now row.new.items) }
 {
-    let Some(named) = named_source(schema, sources, inverses, form, positions, name) else {
+    let Some(named) = named_source(schema, tables, form, positions, name) else {
         return Ok(());
     };
     row.push(named)?;
@@ -228,21 +234,20 @@ fn attribute_names<'s>(
 fn named_sources<'s>(
     alloc: Global,
     schema: &ResolvedTypes<'s, '_>,
-    sources: &AttributeSources,
-    inverses: &[InverseAttribute<'_>],
+    tables: &SourceTables<'_, '_>,
     form: &Form,
     positions: &RowIndex,
     names: &[Word<'s>],
 ) -> Result<Vec<NamedSource<'s>>, AllocError>
-    requires known { AreResolvedSources schema.now sources.now inverses.now }
+    requires known { AreResolvedSources schema.now tables.now.sources.now tables.now.inverses.now }
     requires numbered { AreNumbered (the_schema schema.now.names) form.now }
     requires positions { ArePositions form.now.slots.items positions.now }
     ensures { IfOk result (λ t. AreNamedSources (the_schema schema.now.names)
-        (inverses_seen (the_schema schema.now.names) inverses.now) form.now t.items) }
+        (inverses_seen (the_schema schema.now.names) tables.now.inverses.now) form.now t.items) }
 {
     let mut row: Vec<NamedSource<'s>> = Vec::new(alloc);
     for name in names {
-        add_named(schema, &mut row, sources, inverses, form, positions, *name)?;
+        add_named(schema, &mut row, tables, form, positions, *name)?;
     }
     Ok(row)
 }
@@ -260,22 +265,21 @@ fn form_row<'s>(
     alloc: Global,
     keys: RandomState,
     schema: &ResolvedTypes<'s, '_>,
-    sources: &AttributeSources,
-    inverses: &[InverseAttribute<'_>],
+    tables: &SourceTables<'_, '_>,
     form: &Form,
     count: usize,
 ) -> Result<Vec<NamedSource<'s>>, AllocError>
-    requires known { AreResolvedSources schema.now sources.now inverses.now }
+    requires known { AreResolvedSources schema.now tables.now.sources.now tables.now.inverses.now }
     requires numbered { AreNumbered (the_schema schema.now.names) form.now }
     ensures { IfOk result (λ t. AreNamedSources (the_schema schema.now.names)
-        (inverses_seen (the_schema schema.now.names) inverses.now) form.now t.items) }
+        (inverses_seen (the_schema schema.now.names) tables.now.inverses.now) form.now t.items) }
 {
     let names = attribute_names(alloc, schema, form)?;
     if are_many(names.len(), form.types.len(), count) {
         return Ok(Vec::new(alloc));
     }
     let positions = positions(alloc, keys, &form.slots)?;
-    named_sources(alloc, schema, sources, inverses, form, &positions, &names)
+    named_sources(alloc, schema, tables, form, &positions, &names)
 }
 
 /// Counts an instance of `form`.
@@ -395,11 +399,12 @@ impl<'s> FormSources<'s> {
         ensures { IfOk result (AreFormSources (the_schema schema.now.names)
             (inverses_seen (the_schema schema.now.names) inverses.now) forms.now) }
     {
+        let tables = SourceTables { sources, inverses };
         let counts = instance_counts(alloc, forms.len(), form_of)?;
         let mut rows = Vec::new(alloc);
         for n in 0..forms.len() {
             let count = count_of(&counts, n);
-            let row = form_row(alloc, keys, schema, sources, inverses, &forms[n], count)?;
+            let row = form_row(alloc, keys, schema, &tables, &forms[n], count)?;
             rows.push(row)?;
         }
         Ok(FormSources { rows })

@@ -1,3 +1,4 @@
+pub mod AskedSources
 pub mod SourceViews
 pub mod StoredAttributes
 pub mod Tables

@@ -4,17 +4,16 @@ ghost use Rattle.std.specs.Prelude.{◌≡◌, List, Some, IfOk, IfSome};
 ghost use Rattle.std.specs.Option.{option_map};
 ghost use Rattle.express_syntax.specs.ExpressionViews.{capitals};
 ghost use Rattle.schema_types.specs.TypeTables.{IsMade};
-ghost use Rattle.schema_names.specs.Numbers.{HasNumber};
 ghost use Rattle.schema_names.specs.Schemas.{the_schema};
 ghost use Rattle.schema_underlying_types.specs.BaseViews.{name_at};
 ghost use Rattle.conformance.specs.Rules.{InverseAttribute as InverseTree};
-ghost use Rattle.conformance.specs.Attributes.{
-  Attributes,
-  AreAttributes,
-  IsDeclaring,
-  IsSource,
-  IsNamed,
-  IsInGroup,
+ghost use Rattle.conformance.specs.Attributes.{Attributes, AreAttributes, IsDeclaring};
+ghost use Rattle.schema_attribute_sources.specs.AskedSources.{
+  IsTypeNumber,
+  IsAskedSource,
+  IsSourceByName,
+  IsSourceByGroup,
+  IsKnownSource,
 };
 ghost use Rattle.schema_attribute_sources.specs.SourceViews.{
   types_seen,
@@ -65,16 +64,13 @@ fn derived_source(
     requires made { IsMade schema.now }
     requires sources { AreSources (the_schema schema.now.names) sources.now }
     requires types { AreTypes (the_schema schema.now.names) types.now }
-    requires asked { HasNumber (the_schema schema.now.names)
-        (name_at (the_schema schema.now.names) asked.entity) asked.entity }
+    requires asked { IsTypeNumber (the_schema schema.now.names) asked.entity }
     requires lowest { IsLowestFound schema.now sources.now (capitals asked.name) asked.entity
         types.now (Some lowest) }
-    ensures source { (inverses : List InverseTree) → IsSource (the_schema schema.now.names) inverses
-        (types_seen (the_schema schema.now.names) types.now)
-        (name_at (the_schema schema.now.names) asked.entry.entity) (capitals asked.entry.name)
-        (source_seen (the_schema schema.now.names) inverses result) }
-    ensures numbered { (inverses : List InverseTree)
-        → IsNumberedSource (the_schema schema.now.names) inverses result }
+    ensures source { (all : List InverseTree)
+        → IsAskedSource (the_schema schema.now.names) all types.now asked.entry result }
+    ensures numbered { (all : List InverseTree)
+        → IsNumberedSource (the_schema schema.now.names) all result }
 {
     if !is_below_all(schema, &sources.lines, asked, lowest, types) {
         return Source::Unclear;
@@ -98,19 +94,12 @@ fn source_of(
 ) -> Source
     requires known { AreResolvedSources schema.now sources.now inverses.now }
     requires types { AreTypes (the_schema schema.now.names) types.now }
-    requires asked { HasNumber (the_schema schema.now.names)
-        (name_at (the_schema schema.now.names) asked.entity) asked.entity }
-    requires declaring { IsDeclaring (the_schema schema.now.names)
-        (types_seen (the_schema schema.now.names) types.now) (capitals asked.name)
-        (name_at (the_schema schema.now.names) asked.entity) }
-    ensures source { IsSource (the_schema schema.now.names)
-        (inverses_seen (the_schema schema.now.names) inverses.now)
-        (types_seen (the_schema schema.now.names) types.now)
-        (name_at (the_schema schema.now.names) asked.entry.entity) (capitals asked.entry.name)
-        (source_seen (the_schema schema.now.names)
-        (inverses_seen (the_schema schema.now.names) inverses.now) result) }
-    ensures numbered { IsNumberedSource (the_schema schema.now.names)
-        (inverses_seen (the_schema schema.now.names) inverses.now) result }
+    requires asked { IsTypeNumber (the_schema schema.now.names) asked.entity }
+    requires declaring { let s = the_schema schema.now.names in
+        IsDeclaring s (types_seen s types.now) (capitals asked.name) (name_at s asked.entity) }
+    ensures source { let s = the_schema schema.now.names in
+        IsAskedSource s (inverses_seen s inverses.now) types.now asked.entry result }
+    ensures numbered { IsKnownSource schema.now inverses.now result }
 {
     match lowest(schema, &sources.lines, asked, types) {
         Some(lowest) => derived_source(schema, sources, asked, lowest, types),
@@ -157,21 +146,15 @@ pub fn attribute_source(
 ) -> Option<Source>
     requires known { AreResolvedSources schema.now sources.now inverses.now }
     requires types { AreTypes (the_schema schema.now.names) types.now }
-    ensures named { IsNamed (the_schema schema.now.names)
-        (inverses_seen (the_schema schema.now.names) inverses.now)
-        (types_seen (the_schema schema.now.names) types.now) (capitals name.entry)
-        (option_map (source_seen (the_schema schema.now.names)
-        (inverses_seen (the_schema schema.now.names) inverses.now)) result) }
+    ensures named { IsSourceByName schema.now inverses.now types.now
+        (capitals name.entry) result }
 
     // The source doesn't depend on how the schema's meaning is represented.
-    ensures value { (attributes : Attributes) → AreAttributes (the_schema schema.now.names)
-        (inverses_seen (the_schema schema.now.names) inverses.now) attributes
-        → option_map (source_seen (the_schema schema.now.names)
-        (inverses_seen (the_schema schema.now.names) inverses.now)) result
-        ≡ attributes.source (types_seen (the_schema schema.now.names) types.now)
-        (capitals name.entry) }
-    ensures numbered { IfSome result (IsNumberedSource (the_schema schema.now.names)
-        (inverses_seen (the_schema schema.now.names) inverses.now)) }
+    ensures value { let s = the_schema schema.now.names in
+        let all = inverses_seen s inverses.now in
+        (m : Attributes) → AreAttributes s all m → option_map (source_seen s all) result
+        ≡ m.source (types_seen s types.now) (capitals name.entry) }
+    ensures numbered { IfSome result (IsKnownSource schema.now inverses.now) }
 {
     match declaring(&schema.names, types, name) {
         Declarer::Nobody => None,
@@ -199,21 +182,15 @@ pub fn group_source(
 ) -> Source
     requires known { AreResolvedSources schema.now sources.now inverses.now }
     requires types { AreTypes (the_schema schema.now.names) types.now }
-    ensures group { IsInGroup (the_schema schema.now.names)
-        (inverses_seen (the_schema schema.now.names) inverses.now)
-        (types_seen (the_schema schema.now.names) types.now) (capitals entity.entry)
-        (capitals name.entry) (source_seen (the_schema schema.now.names)
-        (inverses_seen (the_schema schema.now.names) inverses.now) result) }
+    ensures group { IsSourceByGroup schema.now inverses.now types.now
+        (capitals entity.entry) (capitals name.entry) result }
 
     // The source doesn't depend on how the schema's meaning is represented.
-    ensures value { (attributes : Attributes) → AreAttributes (the_schema schema.now.names)
-        (inverses_seen (the_schema schema.now.names) inverses.now) attributes
-        → source_seen (the_schema schema.now.names)
-        (inverses_seen (the_schema schema.now.names) inverses.now) result
-        ≡ attributes.source_of (types_seen (the_schema schema.now.names) types.now)
-        (capitals entity.entry) (capitals name.entry) }
-    ensures numbered { IsNumberedSource (the_schema schema.now.names)
-        (inverses_seen (the_schema schema.now.names) inverses.now) result }
+    ensures value { let s = the_schema schema.now.names in
+        let all = inverses_seen s inverses.now in
+        (m : Attributes) → AreAttributes s all m → source_seen s all result
+        ≡ m.source_of (types_seen s types.now) (capitals entity.entry) (capitals name.entry) }
+    ensures numbered { IsKnownSource schema.now inverses.now result }
 {
     match group_member(schema, types, entity, name) {
         Some(entity) => {

@@ -10,7 +10,7 @@ ghost use Rattle.schema_names.specs.Numbers.{HasNumber};
 ghost use Rattle.schema_names.specs.Schemas.{the_schema};
 ghost use Rattle.schema_semantics.specs.Names.{IsEntity};
 ghost use Rattle.schema_underlying_types.specs.BaseViews.{name_at};
-ghost use Rattle.schema_attribute_sources.specs.SourceViews.{inverses_seen, source_seen, IsNumberedSource};
+ghost use Rattle.schema_attribute_sources.specs.AskedSources.{IsTypeNumber, IsStoredSource, IsKnownSource};
 ghost use Rattle.schema_constraints.specs.steps.Ordered.{is_place};
 ghost use Rattle.schema_attribute_sources.specs.StoredAttributes.{
   is_inverse,
@@ -18,7 +18,6 @@ ghost use Rattle.schema_attribute_sources.specs.StoredAttributes.{
   IsTested,
   IsOwnPlace,
   IsStored,
-  IsStoredAt,
   AreInverses,
 };
 
@@ -83,8 +82,7 @@ fn own_place(
     asked: Asked<'_>,
 ) -> Option<u32>
     requires made { IsMade schema.now }
-    requires number { HasNumber (the_schema schema.now.names)
-        (name_at (the_schema schema.now.names) asked.entity) asked.entity }
+    requires number { IsTypeNumber (the_schema schema.now.names) asked.entity }
     requires entity { IsEntity (the_schema schema.now.names)
         (name_at (the_schema schema.now.names) asked.entity) }
     ensures { IsOwnPlace (the_schema schema.now.names)
@@ -173,17 +171,11 @@ pub(crate) fn stored_source(
 ) -> Source
     requires made { IsMade schema.now }
     requires inverses { AreInverses (the_schema schema.now.names) inverses.now }
-    requires number { HasNumber (the_schema schema.now.names)
-        (name_at (the_schema schema.now.names) asked.entity) asked.entity }
+    requires number { IsTypeNumber (the_schema schema.now.names) asked.entity }
     requires stored { IsStored (the_schema schema.now.names)
         (name_at (the_schema schema.now.names) asked.entity) (capitals asked.name) }
-    ensures source { IsStoredAt (the_schema schema.now.names)
-        (inverses_seen (the_schema schema.now.names) inverses.now)
-        (name_at (the_schema schema.now.names) asked.entry.entity) (capitals asked.entry.name)
-        (source_seen (the_schema schema.now.names)
-        (inverses_seen (the_schema schema.now.names) inverses.now) result) }
-    ensures numbered { IsNumberedSource (the_schema schema.now.names)
-        (inverses_seen (the_schema schema.now.names) inverses.now) result }
+    ensures source { IsStoredSource schema.now inverses.now asked.entry result }
+    ensures numbered { IsKnownSource schema.now inverses.now result }
 {
     if let Some(place) = own_place(schema, sources, asked) {
         return Source::Explicit(place);

@@ -74,6 +74,29 @@ pub struct Sources<'a, 't, 'r> {
     pub shapes: &'r [Shape],
 }
 
+/// An entity whose attributes are collected.
+#[derive(Clone, Copy)]
+struct Owner<'r> {
+    /// The entity's number.
+    entity: u32,
+    /// The numbers of its data types: of explicit attributes first, then of derived ones, then of
+    /// inverse ones.
+    row: &'r [u32],
+    /// The count of derived attributes that precede its own in the schema.
+    count: usize,
+}
+
+/// The declaration of an attribute, whose data type has a number or none.
+#[derive(Clone, Copy)]
+struct OwnDeclaration {
+    /// The number of the entity.
+    entity: u32,
+    /// The number of the data type, if any.
+    data_type: Option<u32>,
+    /// The number of the derived attribute, if this declaration derives the value.
+    derivation: Option<u32>,
+}
+
 /// The classes of attributes (ISO 10303-11, 9.2.1).
 #[derive(Clone, Copy, Debug, PartialEq, Eq)]
 pub enum Class {
@@ -224,25 +247,24 @@ fn item_at(row: &[u32], place: usize) -> Option<u32>
 /// Adds the attributes of the explicit declaration `n` of an entity.
 fn add_explicit<'a>(
     sources: &Sources<'a, '_, '_>,
-    entity: u32,
-    row: &[u32],
+    owner: &Owner<'_>,
     n: usize,
     explicit: &Explicit<'a>,
     table: &mut Attributes<'a>,
 ) -> Result<(), AllocError>
     requires sources { AreSources sources.now }
-    requires known { (t : ℕ) → slice_get row.now n ≡ Some t
+    requires known { (t : ℕ) → slice_get owner.now.row.now n ≡ Some t
         → IsKnownAt (the_schema sources.now.names.now) classes.Explicit t }
     ensures { OnOk result (AddsAll table.old
-        (SaysExplicit (the_schema sources.now.names.now) entity row.now n
+        (SaysExplicit (the_schema sources.now.names.now) owner.now.entity owner.now.row.now n
         (explicit_of explicit.now)) table.new) }
 {
-    match item_at(row, n) {
+    match item_at(owner.row, n) {
         Some(data_type) => {
             add_attributes(
                 sources,
                 explicit.attributes.as_slice(),
-                entity,
+                owner.entity,
                 data_type,
                 None,
                 table,
@@ -255,20 +277,19 @@ fn add_explicit<'a>(
 /// Adds the explicit attributes of an entity.
 fn add_explicits<'a>(
     sources: &Sources<'a, '_, '_>,
-    entity: u32,
-    row: &[u32],
+    owner: &Owner<'_>,
     explicits: &[Explicit<'a>],
     table: &mut Attributes<'a>,
 ) -> Result<(), AllocError>
     requires sources { AreSources sources.now }
     requires known { AreKnownFrom (the_schema sources.now.names.now) (length explicits.now)
-        row.now }
+        owner.now.row.now }
     ensures { OnOk result (AddsAll table.old
-        (AreNth (SaysExplicit (the_schema sources.now.names.now) entity row.now)
+        (AreNth (SaysExplicit (the_schema sources.now.names.now) owner.now.entity owner.now.row.now)
         (map explicit_of explicits.now)) table.new) }
 {
     for n in 0..explicits.len() {
-        add_explicit(sources, entity, row, n, &explicits[n], table)?;
+        add_explicit(sources, owner, n, &explicits[n], table)?;
     }
     Ok(())
 }
@@ -277,27 +298,25 @@ fn add_explicits<'a>(
 fn add_one<'a>(
     sources: &Sources<'_, '_, '_>,
     class: Class,
-    entity: u32,
-    data_type: Option<u32>,
-    derivation: Option<u32>,
     attribute: Attribute<'a>,
+    declaration: OwnDeclaration,
     table: &mut Attributes<'a>,
 ) -> Result<(), AllocError>
     requires sources { AreSources sources.now }
     requires known { (t : ℕ) → IsKnownAt (the_schema sources.now.names.now) class t }
     ensures { OnOk result (AddsAll table.old
-        (SaysOne (the_schema sources.now.names.now) class entity data_type derivation
-        (attribute_of attribute.entry)) table.new) }
+        (SaysOne (the_schema sources.now.names.now) class declaration.entity declaration.data_type
+        declaration.derivation (attribute_of attribute.entry)) table.new) }
 {
-    match data_type {
+    match declaration.data_type {
         Some(data_type) => add_attribute(
             sources,
             class,
             attribute,
             AttributeDeclaration {
-                entity,
+                entity: declaration.entity,
                 data_type,
-                derivation,
+                derivation: declaration.derivation,
             },
             table,
         ),
@@ -305,68 +324,62 @@ fn add_one<'a>(
     }
 }
 
-/// Adds the derived attribute `n` of an entity.
-///
-/// `row` lists the entity's data types, those of derived attributes from `first` on. `count`
-/// derived attributes precede those of the entity in the schema.
+/// Adds the derived attribute `n` of an entity, whose data types of derived attributes start at
+/// `first`.
 fn add_derived<'a>(
     sources: &Sources<'a, '_, '_>,
-    entity: u32,
-    row: &[u32],
+    owner: &Owner<'_>,
     first: usize,
-    count: usize,
     n: usize,
     derived: &Derived<'a>,
     table: &mut Attributes<'a>,
 ) -> Result<(), AllocError>
     requires sources { AreSources sources.now }
     ensures { OnOk result (AddsAll table.old
-        (SaysDerived (the_schema sources.now.names.now) entity row.now first count n
-        (derived_of derived.now)) table.new) }
+        (SaysDerived (the_schema sources.now.names.now) owner.now.entity owner.now.row.now first
+        owner.now.count n (derived_of derived.now)) table.new) }
 {
     let place = sum(first, n)?;
-    let derivation = number(count, n)?;
+    let derivation = number(owner.count, n)?;
+    let declaration = OwnDeclaration {
+        entity: owner.entity,
+        data_type: item_at(owner.row, place),
+        derivation: Some(derivation),
+    };
     add_one(
         sources,
         Class::Derived,
-        entity,
-        item_at(row, place),
-        Some(derivation),
         derived.attribute,
+        declaration,
         table,
     )
 }
 
-/// Adds the derived attributes of an entity.
-///
-/// `row` lists the entity's data types, those of derived attributes from `first` on. `count`
-/// derived attributes precede those of the entity in the schema.
+/// Adds the derived attributes of an entity, whose data types of derived attributes start at
+/// `first`.
 fn add_deriveds<'a>(
     sources: &Sources<'a, '_, '_>,
-    entity: u32,
-    row: &[u32],
+    owner: &Owner<'_>,
     first: usize,
-    count: usize,
     deriveds: &[Derived<'a>],
     table: &mut Attributes<'a>,
 ) -> Result<(), AllocError>
     requires sources { AreSources sources.now }
     ensures { OnOk result (AddsAll table.old
-        (AreNth (SaysDerived (the_schema sources.now.names.now) entity row.now first count)
-        (map derived_of deriveds.now)) table.new) }
+        (AreNth (SaysDerived (the_schema sources.now.names.now) owner.now.entity owner.now.row.now
+        first owner.now.count) (map derived_of deriveds.now)) table.new) }
 {
     for n in 0..deriveds.len() {
-        add_derived(sources, entity, row, first, count, n, &deriveds[n], table)?;
+        add_derived(sources, owner, first, n, &deriveds[n], table)?;
     }
     Ok(())
 }
 
-/// Adds the inverse attribute `n` of an entity. `row` lists the entity's data types, those of
-/// inverse attributes from `first` on.
+/// Adds the inverse attribute `n` of an entity, whose data types of inverse attributes start at
+/// `first`.
 fn add_inverse<'a>(
     sources: &Sources<'a, '_, '_>,
-    entity: u32,
-    row: &[u32],
+    owner: &Owner<'_>,
     first: usize,
     n: usize,
     inverse: &Inverse<'a>,
@@ -374,49 +387,48 @@ fn add_inverse<'a>(
 ) -> Result<(), AllocError>
     requires sources { AreSources sources.now }
     ensures { OnOk result (AddsAll table.old
-        (SaysInverse (the_schema sources.now.names.now) entity row.now first n
+        (SaysInverse (the_schema sources.now.names.now) owner.now.entity owner.now.row.now first n
         (inverse_of inverse.now)) table.new) }
 {
     let place = sum(first, n)?;
+    let declaration = OwnDeclaration {
+        entity: owner.entity,
+        data_type: item_at(owner.row, place),
+        derivation: None,
+    };
     add_one(
         sources,
         Class::Inverse,
-        entity,
-        item_at(row, place),
-        None,
         inverse.attribute,
+        declaration,
         table,
     )
 }
 
-/// Adds the inverse attributes of an entity. `row` lists the entity's data types, those of inverse
-/// attributes from `first` on.
+/// Adds the inverse attributes of an entity, whose data types of inverse attributes start at
+/// `first`.
 fn add_inverses<'a>(
     sources: &Sources<'a, '_, '_>,
-    entity: u32,
-    row: &[u32],
+    owner: &Owner<'_>,
     first: usize,
     inverses: &[Inverse<'a>],
     table: &mut Attributes<'a>,
 ) -> Result<(), AllocError>
     requires sources { AreSources sources.now }
     ensures { OnOk result (AddsAll table.old
-        (AreNth (SaysInverse (the_schema sources.now.names.now) entity row.now first)
-        (map inverse_of inverses.now)) table.new) }
+        (AreNth (SaysInverse (the_schema sources.now.names.now) owner.now.entity owner.now.row.now
+        first) (map inverse_of inverses.now)) table.new) }
 {
     for n in 0..inverses.len() {
-        add_inverse(sources, entity, row, first, n, &inverses[n], table)?;
+        add_inverse(sources, owner, first, n, &inverses[n], table)?;
     }
     Ok(())
 }
 
-/// Adds the attributes of an entity of all classes. `count` derived attributes precede those of the
-/// entity in the schema.
+/// Adds the attributes of an entity of all classes.
 fn add_clauses<'a>(
     sources: &Sources<'a, '_, '_>,
-    number: u32,
-    row: &[u32],
-    count: usize,
+    owner: &Owner<'_>,
     explicits: &[Explicit<'a>],
     deriveds: &[Derived<'a>],
     inverses: &[Inverse<'a>],
@@ -424,41 +436,36 @@ fn add_clauses<'a>(
 ) -> Result<(), AllocError>
     requires sources { AreSources sources.now }
     requires known { AreKnownFrom (the_schema sources.now.names.now) (length explicits.now)
-        row.now }
+        owner.now.row.now }
     ensures { OnOk result (AddsAll table.old
-        (SaysClauses (the_schema sources.now.names.now) number row.now count
-        (map explicit_of explicits.now) (map derived_of deriveds.now) (map inverse_of inverses.now))
-        table.new) }
+        (SaysClauses (the_schema sources.now.names.now) owner.now.entity owner.now.row.now
+        owner.now.count (map explicit_of explicits.now) (map derived_of deriveds.now)
+        (map inverse_of inverses.now)) table.new) }
 {
     let explicit_count = explicits.len();
     let first = sum(explicit_count, deriveds.len())?;
-    add_explicits(sources, number, row, explicits, table)?;
-    add_deriveds(sources, number, row, explicit_count, count, deriveds, table)?;
-    add_inverses(sources, number, row, first, inverses, table)
+    add_explicits(sources, owner, explicits, table)?;
+    add_deriveds(sources, owner, explicit_count, deriveds, table)?;
+    add_inverses(sources, owner, first, inverses, table)
 }
 
-/// Adds the attributes of an entity. `count` derived attributes precede those of the entity in the
-/// schema.
+/// Adds the attributes of `entity`, which is the owner.
 fn add_entity<'a>(
     sources: &Sources<'a, '_, '_>,
-    number: u32,
-    row: &[u32],
-    count: usize,
+    owner: &Owner<'_>,
     entity: &Entity<'a>,
     table: &mut Attributes<'a>,
 ) -> Result<(), AllocError>
     requires sources { AreSources sources.now }
     requires known { AreKnownFrom (the_schema sources.now.names.now)
-        (length entity.now.explicits.items) row.now }
+        (length entity.now.explicits.items) owner.now.row.now }
     ensures { OnOk result (AddsAll table.old
-        (SaysEntity (the_schema sources.now.names.now) number row.now count (entity_of entity.now))
-        table.new) }
+        (SaysEntity (the_schema sources.now.names.now) owner.now.entity owner.now.row.now
+        owner.now.count (entity_of entity.now)) table.new) }
 {
     add_clauses(
         sources,
-        number,
-        row,
-        count,
+        owner,
         &entity.explicits,
         entity.derived_attributes(),
         entity.inverse_attributes(),
@@ -496,7 +503,12 @@ fn add_declaration<'a>(
             data_types_are_known();
             let number = number(0, i)?;
             let row = row_of(&sources.data_types.rows, i);
-            add_entity(sources, number, row, count, entity, table)
+            let owner = Owner {
+                entity: number,
+                row,
+                count,
+            };
+            add_entity(sources, &owner, entity, table)
         }
         _ => Ok(()),
     }

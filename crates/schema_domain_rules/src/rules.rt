@@ -71,26 +71,33 @@ fn add_checked<'t, 'a>(
     }
 }
 
+/// Where a rule stands.
+#[derive(Clone, Copy)]
+struct RulePlace {
+    holder: RuleHolder,
+    /// The number of the rule in its clause, from 1 on.
+    number: u64,
+}
+
 /// Adds a rule if it is checked, by its label, if any, otherwise by its number in its clause.
 fn add_rule<'t, 'a>(
     alloc: Global,
     findings: &Findings<'a, '_, '_>,
     rules: &mut Vec<DomainRule<'a, 't>>,
     own: Own<'_>,
-    holder: RuleHolder,
-    number: u64,
+    place: RulePlace,
     rule: &'t Rule<'a>,
 ) -> Result<(), AllocError>
     requires found { AreFound findings.now }
-    requires own { IsOwn (schema_in findings.now.known) own holder }
-    requires holder { IsNumberedHolder (schema_in findings.now.known) holder }
+    requires own { IsOwn (schema_in findings.now.known) own place.holder }
+    requires holder { IsNumberedHolder (schema_in findings.now.known) place.holder }
     ensures { OnOk result (Adds (schema_in findings.now.known) (statement_of
-        (holder_seen (schema_in findings.now.known) holder) number (rule_of rule.now) ∷ [])
-        rules.old.items rules.new.items) }
+        (holder_seen (schema_in findings.now.known) place.holder) place.number
+        (rule_of rule.now) ∷ []) rules.old.items rules.new.items) }
 {
     let reason = reason_of_rule(alloc, findings, own, &rule.body)?;
     if is_checked(reason) {
-        return add_checked(rules, holder, number, rule);
+        return add_checked(rules, place.holder, place.number, rule);
     }
     Ok(())
 }
@@ -112,8 +119,11 @@ fn add_rules<'t, 'a>(
         rules.old.items rules.new.items) }
 {
     for i in 0..written.len() {
-        let number = i as u64 + 1;
-        add_rule(alloc, findings, rules, own, holder, number, &written[i])?;
+        let place = RulePlace {
+            holder,
+            number: i as u64 + 1,
+        };
+        add_rule(alloc, findings, rules, own, place, &written[i])?;
     }
     Ok(())
 }

@@ -10,6 +10,8 @@ use Rattle.schema_data_types.specs.NumberedTypes.{form_in, whole_types, all_data
 use Rattle.schema_data_types.specs.steps.Values.{AreParts}
 use Rattle.schema_data_types.specs.ShapeTables.{AreShapes}
 use Rattle.schema_explicit_attributes.specs.SupertypeLines.{HaveLines}
+use Rattle.schema_explicit_attributes.specs.Places.{all_places, ArePlaceRows}
+use Rattle.schema_explicit_attributes.specs.declared.places.AttributePlaces.{AttributePlaces}
 use Rattle.schema_attributes.specs.steps.Declarations.{AreAttributes}
 use Rattle.schema_data_types.specs.Items.{AreItems}
 use Rattle.schema_derived_attributes.specs.AttributeRanks.{AreRanksOf}
@@ -39,6 +41,10 @@ pub record AreMeanings (s : Schema) (above : Graph) (t : Meanings) : Type 0 wher
   pub below : IsReversal above (graph_of t.below.items)
   pub attributes : AreAttributes s t.attributes
   pub items : AreItems s t.items
+
+-- The table has, by declaration, the numbers of the explicit attributes that an entity declares itself.
+abbrev pub HasOwnPlaces : Schema → AttributePlaces → Type 0
+HasOwnPlaces s t = ArePlaceRows (all_places s) s.declarations (graph_of t.own.items)
 
 -- The table has the findings for the schema's rules and derived attributes.
 pub record IsJudged (s : Schema) (t : Judged) : Type 0 where

@@ -6,7 +6,7 @@ ghost use Rattle.graphs.specs.Graphs.{graph_of};
 ghost use Rattle.schema_semantics.specs.Faults.{IsResolved};
 ghost use Rattle.schema_names.specs.Schemas.{the_schema};
 ghost use Rattle.schema_explicit_attributes.specs.Supertypes.{AreAbove};
-ghost use Rattle.schema_explicit_attributes.specs.Places.{places_of, all_places, ArePlaceRows};
+ghost use Rattle.schema_explicit_attributes.specs.Places.{places_of, all_places};
 ghost use Rattle.schema_types.specs.TypeTables.{IsMade};
 ghost use Rattle.schema_attribute_references.specs.steps.Taking.{IsKnown, schema_in};
 ghost use Rattle.schema_data_types.specs.Items.{AreItems};
@@ -15,6 +15,7 @@ ghost use Rattle.schema_data_types.specs.ShapeTables.{AreShapes};
 ghost use Rattle.schema_resolution.specs.SchemaFindings.{
   AreTypes,
   AreMeanings,
+  HasOwnPlaces,
   IsJudged,
   AreDomainTables,
   AreFound,
@@ -199,9 +200,7 @@ fn found_by<'r, 't, 'a>(
         known.now.tables.names.now.schema.now.declarations.items }
     requires shapes { AreShapes (schema_in known.now) shapes.now }
     requires places { places_of explicit.now.attributes.items ≡ all_places (schema_in known.now) }
-    requires own { ArePlaceRows (all_places (schema_in known.now))
-        (schema_in known.now).declarations
-        (graph_of explicit.now.own.items) }
+    requires own { HasOwnPlaces (schema_in known.now) explicit.now }
     ensures { IfOk result (AreFound (schema_in known.now)) }
 {
     let Bodies { judged, domain } = judge_by(alloc, known, items, lines, shapes)?;

@@ -82,7 +82,6 @@ const CASES: &'static [Case] = &[
             (PartKind::Width, "A", Reason::Profile),
             (PartKind::Bound, "B", Reason::Profile),
             (PartKind::Bound, "B", Reason::Profile),
-            (PartKind::Width, "B", Reason::Profile),
             (PartKind::Width, "C", Reason::Profile),
             (PartKind::Supertype, "E", Reason::Profile),
             (PartKind::Inverse, "E.I", Reason::Profile),

@@ -7,7 +7,7 @@ use Rattle.express_syntax.specs.declared.expression.Relation.TheVariants as rela
 use Rattle.express_syntax.specs.Trees.{Tree, reference, comparison, call, literal, plain, text}
 use Rattle.express_syntax.specs.Trees as trees
 use Rattle.express_syntax.specs.Runs.{ended}
-use Rattle.express_syntax.specs.Schemas.{Schema, Declaration, type, entity, TypeDeclaration, Entity, own, redeclared, Derived, Inverse, alone, parsed, DataType, named, integer, real, string, width, enumeration, data_type, of_other}
+use Rattle.express_syntax.specs.Schemas.{Schema, Declaration, type, entity, TypeDeclaration, Entity, own, redeclared, Derived, Inverse, alone, parsed, DataType, named, integer, real, string, width, other_width, enumeration, data_type, of_other}
 use Rattle.schema_semantics.specs.declared.unchecked.PartKind.{PartKind}
 use Rattle.schema_semantics.specs.declared.unchecked.PartKind.TheVariants as parts
 use Rattle.schema_semantics.specs.declared.unchecked.Reason.{Reason}
@@ -55,11 +55,14 @@ numbers-are-no-strings s (R, related, keeps) = by (keeps integer (string None) r
     by (f, g, h, k, one) =
         subst (λ x. AreOne R of_numbers x) (of-string s g k) (subst (λ x. AreOne R x g) (of-integer s f h) one)
 
--- TYPE t = REAL(5); END_TYPE;
+-- TYPE t = REAL(5); END_TYPE; TYPE w = STRING(..); END_TYPE;
 -- ENTITY a SUPERTYPE OF (..); x : INTEGER; DERIVE y : INTEGER := 3; UNIQUE u : y; END_ENTITY;
 -- ENTITY b SUBTYPE OF (a); SELF\a.x : STRING; INVERSE SELF\a.i : b FOR x; END_ENTITY;
 abbrev precise : Declaration
 precise = type (record { name = codes "T"; underlying = data_type (real (Some (width (codes "5")))); rules = None })
+
+abbrev vague : Declaration
+vague = type (record { name = codes "W"; underlying = data_type (string (Some (other_width ended, false))); rules = None })
 
 abbrev three : Derived
 three = record { attribute = own Y; data_type = integer; body = parsed (number_tree (codes "3")) }
@@ -92,7 +95,7 @@ below =
     }
 
 abbrev odd : Schema
-odd = schema (precise ∷ entity above ∷ entity below ∷ [])
+odd = schema (precise ∷ vague ∷ entity above ∷ entity below ∷ [])
 
 first-profile : (P : Type 0) → P → IsFirst (λ (q : Reason). (q ≡ reasons.Profile) × P) all_reasons reasons.Profile
 first-profile P p = inr ((λ h. unlike h.0), inl ((refl, p), refl))
@@ -134,7 +137,7 @@ other-shape = (A, X, (A, refl, x-is-of-a), unlike)
     unlike (first, is, alike) =
         numbers-are-no-strings odd (subst (λ k. AreAlikeTypes odd k (string None)) (sym (type-of-x first is)) alike)
 
-odd-lists : AreUnchecked odd (part parts.Width (codes "T") reasons.Profile
+odd-lists : AreUnchecked odd (part parts.Width (codes "W") reasons.Profile
     ∷ part parts.Supertype (codes "A") reasons.Profile ∷ part parts.Unique (codes "A.U") reasons.Profile
     ∷ part parts.Redeclared (codes "B.X") reasons.Profile ∷ part parts.Inverse (codes "B.I") reasons.Profile ∷ [])
 odd-lists =

@@ -84,19 +84,13 @@ abbrev pub parts_of_width : Name → Width → List Candidate
 parts_of_width n (other_width r) = always parts.Width n reasons.Profile ∷ []
 parts_of_width n (width t) = because parts.Width n reasons.Profile (IsBeyond (IsWorth t)) ∷ []
 
--- The precision of a REAL is never checked (ISO 10303-11, 8.1.2).
-abbrev pub parts_of_precision : Name → Option Width → List Candidate
-parts_of_precision n None = []
-parts_of_precision n (Some w) = always parts.Width n reasons.Profile ∷ []
-
 abbrev pub parts_of_some_width : Name → Option (Width × Bool) → List Candidate
 parts_of_some_width n None = []
 parts_of_some_width n (Some w) = parts_of_width n w.0
 
 -- The unchecked bounds and widths of a data type, from the outermost on, each lower bound before
--- the upper one.
+-- the upper one. The precision of a REAL limits no value in an exchange file (ISO 10303-11, 8.1.2).
 abbrev pub parts_of_data_type : Name → DataType → List Candidate
-parts_of_data_type n (real w) = parts_of_precision n w
 parts_of_data_type n (string w) = parts_of_some_width n w
 parts_of_data_type n (binary w) = parts_of_some_width n w
 parts_of_data_type n (array b o u k) = parts_of_bounds n b ++ parts_of_data_type n k

@@ -61,23 +61,32 @@ pub fn reason_of_rule<'a>(
     )
 }
 
+/// Where a rule stands.
+#[derive(Clone, Copy)]
+struct RulePlace<'n> {
+    /// The name of the entity or type that states the rule.
+    holder: Word<'n>,
+    /// The number of the rule in its clause, from 1 on.
+    number: u64,
+}
+
 /// Adds a rule if it is unchecked, by its label, if any, otherwise by its number in its clause.
 fn add_rule<'a>(
     alloc: Global,
     findings: &Findings<'a, '_, '_>,
     list: &mut Vec<Unchecked>,
     own: Own<'_>,
-    holder: Word<'_>,
-    number: u64,
+    place: RulePlace<'_>,
     rule: &Rule<'a>,
 ) -> Result<(), AllocError>
     requires found { AreFound findings.now }
-    ensures { OnOk result (Adds (parts_of_rules (capitals holder.entry)
-        (has_reason (schema_in findings.now.known) own.entry) number (rule_of rule.now ∷ []))
+    ensures { OnOk result (Adds (parts_of_rules (capitals place.entry.holder)
+        (has_reason (schema_in findings.now.known) own.entry) place.entry.number
+        (rule_of rule.now ∷ []))
         (unchecked_in list.old.items) (unchecked_in list.new.items)) }
 {
     let reason = reason_of_rule(alloc, findings, own, &rule.body)?;
-    let label = rule_label(holder, rule.label, number);
+    let label = rule_label(place.holder, rule.label, place.number);
     add_for(alloc, list, PartKind::Where, label, reason)
 }
 
@@ -96,7 +105,11 @@ fn add_rules<'a>(
         (unchecked_in list.old.items) (unchecked_in list.new.items)) }
 {
     for i in 0..rules.len() {
-        add_rule(alloc, findings, list, own, holder, i as u64 + 1, &rules[i])?;
+        let place = RulePlace {
+            holder,
+            number: i as u64 + 1,
+        };
+        add_rule(alloc, findings, list, own, place, &rules[i])?;
     }
     Ok(())
 }

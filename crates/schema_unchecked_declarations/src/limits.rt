@@ -17,7 +17,6 @@ ghost use Rattle.schema_semantics.specs.Parts.{
   parts_of_some_bounds,
   parts_of_width,
   parts_of_some_width,
-  parts_of_precision,
   parts_of_data_type,
   parts_of_underlying,
   parts_of_collection,
@@ -116,25 +115,8 @@ fn add_some_width(
     }
 }
 
-/// Adds the precision of a REAL, if any (ISO 10303-11, 8.1.2).
-fn add_precision(
-    alloc: Global,
-    list: &mut Vec<Unchecked>,
-    label: Label<'_>,
-    precision: &Option<Box<Width<'_>>>,
-) -> Result<(), AllocError>
-    ensures { OnOk result (Adds
-        (parts_of_precision (label_name label.entry)
-        (if_some (λ b. width_of b.value) precision.now))
-        (unchecked_in list.old.items) (unchecked_in list.new.items)) }
-{
-    match precision {
-        Some(_) => add_part(alloc, list, PartKind::Width, label, Reason::Profile),
-        None => Ok(()),
-    }
-}
-
 /// Adds the unchecked limits of a data type and of its elements, outermost first (ISO 10303-11, 8).
+/// The precision of a REAL limits no value in an exchange file (ISO 10303-11, 8.1.2).
 pub fn add_data_type(
     alloc: Global,
     list: &mut Vec<Unchecked>,
@@ -146,7 +128,6 @@ pub fn add_data_type(
         (unchecked_in list.old.items) (unchecked_in list.new.items)) }
 {
     match data_type {
-        DataType::Real(precision) => add_precision(alloc, list, label, precision),
         DataType::String(width) => add_some_width(alloc, list, label, width),
         DataType::Binary(width) => add_some_width(alloc, list, label, width),
         DataType::Array {
@@ -167,8 +148,8 @@ pub fn add_data_type(
             add_some_bounds(alloc, list, label, bounds)?;
             add_data_type(alloc, list, label, element)
         }
-        DataType::Integer | DataType::Number | DataType::Boolean => Ok(()),
-        DataType::Logical | DataType::Named(_) => Ok(()),
+        DataType::Integer | DataType::Number | DataType::Real(_) => Ok(()),
+        DataType::Boolean | DataType::Logical | DataType::Named(_) => Ok(()),
     }
 }
 

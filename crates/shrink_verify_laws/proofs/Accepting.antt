@@ -18,7 +18,7 @@ use Rattle.value_equality.proofs.Heads.{same_bool}
 use Rattle.value_equality.proofs.Quotients.{quotients_are_images}
 use Rattle.value_equality.proofs.Rounds.{tables_decide, standard_is_valid}
 use Rattle.express_syntax.specs.Schemas.{Schema}
-use Rattle.conformance.specs.Choices.{Mergeable}
+use Rattle.conformance.specs.Choices.{MergeOptions}
 use Rattle.conformance.specs.PlainRows.{AreRowsOf}
 use Rattle.conformance.specs.SchemaMeanings.{Said, instances}
 use Rattle.conformance.proofs.Rowed.{same_names}
@@ -66,7 +66,7 @@ as_many s said f rows are =
     ∙ names_from s said.domain said.entities 0 f.sections))
     ∙ length-map rows (λ (r : Row). r.name)
 
-module _ (s : Schema) (chosen : Mergeable) (bytes output certificate : List ℕ) (m : Summary)
+module _ (s : Schema) (chosen : MergeOptions) (bytes output certificate : List ℕ) (m : Summary)
     (done : IsDone s chosen bytes output certificate m) where
   module _ (said : Said s) where
     abbrev merge : IsMergeOf s said chosen bytes output

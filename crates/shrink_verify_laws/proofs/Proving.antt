@@ -1,7 +1,7 @@
 -- What a merge writes is proved, and nothing else is answered of it.
 use Rattle.std.specs.Prelude.{◌≡◌, ◌≢◌, ◌⊎◌, Result, Ok, Err}
 use Rattle.std.proofs.Common.{refl, inl, inr}
-use Rattle.conformance.specs.Choices.{mergeable}
+use Rattle.conformance.specs.Choices.{merge_options}
 use Rattle.merge_theorems.specs.Headline.{ChecksProve}
 use Rattle.reports.specs.declared.fault.Fault.{Fault}
 use Rattle.reports.specs.declared.fault.Fault.TheVariants as faults
@@ -34,7 +34,7 @@ own_outputs_are_proved law one c strict schema file output certificate m (s, has
     let proved : Verifies schema file output certificate c (Ok p) = (
       s,
       record { reads = has.reads; resolved = has.resolved; known = known },
-      proves s (mergeable s c) file output certificate m done law,
+      proves s (merge_options s c) file output certificate m done law,
     ) in (
       proved,
       λ r h. or_memory p r

@@ -9,7 +9,7 @@ use Rattle.express_syntax.specs.declared.fault.SchemaFault.TheVariants as schema
 use Rattle.express_syntax.proofs.UniqueSchemas.{one_schema}
 use Rattle.schema_semantics.specs.Parts.{AreUnchecked}
 use Rattle.schema_unchecked_declarations.specs.UncheckedLists.{unchecked_in}
-use Rattle.conformance.specs.Choices.{Choice, mergeable, unknown_choice}
+use Rattle.conformance.specs.Choices.{Choice, merge_options, unknown_choice}
 use Rattle.conformance.specs.SchemaMeanings.{FileConforms}
 use Rattle.file_findings.specs.Findings.{ConformsWhereNothingIsFound}
 use Rattle.merge_theorems.specs.Headline.{SecondMergesStay}
@@ -35,13 +35,13 @@ own_outputs_pass law s chosen bytes output merged =
       ],
       λ f r has report.
           let one = texts.reads_once output has.header_bytes header_bytes f least.file has.reads least.reads in
-          (law s said f r.findings.items r.rule_findings.items r.unknown report.findings).1
-          (subst (FileConforms s said) (sym one.1) least.conforms),
+          (law s said chosen.other_names f r.findings.items r.rule_findings.items r.unknown report.findings).1
+          (subst (FileConforms s said chosen.other_names) (sym one.1) least.conforms),
     )
 
 module _ (c : Choice) (strict : Bool) (text bytes output certificate : List ℕ) (s : Schema) (m : Summary)
     (has : IsResolvedSchemaText s text) (passes : Passes strict s) (known : unknown_choice s c ≡ None)
-    (done : IsDone s (mergeable s c) bytes output certificate m) where
+    (done : IsDone s (merge_options s c) bytes output certificate m) where
   -- the second run reads the same schema
   one : (t : Schema) → IsResolvedSchemaText t text → t ≡ s
   one t other = one_schema text t s other.reads has.reads
@@ -56,24 +56,24 @@ module _ (c : Choice) (strict : Bool) (text bytes output certificate : List ℕ)
   stays : OwnOutputsPass → SecondMergesStay → (again recertified : List ℕ) (r : Result Summary Fault)
       → ShrinkAnswers c strict text output again recertified r → Stays output again r
   stays own stay again recertified (Ok n) h =
-      let redone : IsDone s (mergeable s c) output again recertified n =
-      subst (λ u. IsDone u (mergeable u c) output again recertified n) (one h.0 h.1) h.4 in
+      let redone : IsDone s (merge_options s c) output again recertified n =
+      subst (λ u. IsDone u (merge_options u c) output again recertified n) (one h.0 h.1) h.4 in
       let said = done.merged.some_said in
-      stay s said (mergeable s c) bytes output again (done.merged.merge said) (redone.merged.merge said)
+      stay s said (merge_options s c) bytes output again (done.merged.merge said) (redone.merged.merge said)
   stays own stay again recertified (Err (faults.Schema f)) (inl h, none) = absurd (no_schema_fault text s has f h)
   stays own stay again recertified (Err (faults.Schema f)) (inr h, none) = absurd (not_unknown h.0 f (one h.0 h.1) h.3)
   stays own stay again recertified (Err (faults.Unchecked us)) (h, none) =
       absurd (none_unchecked s us.items (passes h.2)
       (subst (λ u. ∥ AreUnchecked u (unchecked_in us.items) ∥₁) (one h.0 h.1) h.3) h.4)
   stays own stay again recertified (Err (faults.Text roles.File kind place)) h =
-      (own s (mergeable s c) bytes output done.merged).0 kind place h.4.0
+      (own s (merge_options s c) bytes output done.merged).0 kind place h.4.0
   stays own stay again recertified (Err (faults.Text roles.Schema kind place)) h = absurd h.4
   stays own stay again recertified (Err (faults.Text roles.Output kind place)) h = absurd h.4
   stays own stay again recertified (Err (faults.Text roles.Certificate kind place)) h = absurd h.4
   stays own stay again recertified (Err (faults.Findings r)) h =
       let f : File = h.4.0.0 in
-      absurd (h.4.0.3 ((own s (mergeable s c) bytes output done.merged).1 f r h.4.0.1
-      (subst (λ u. IsReport u f r) (one h.0 h.1) h.4.0.2)))
+      absurd (h.4.0.3 ((own s (merge_options s c) bytes output done.merged).1 f r h.4.0.1
+      (subst (λ u. IsReport u c.other_names f r) (one h.0 h.1) h.4.0.2)))
   stays own stay again recertified (Err (faults.Refused role findings rules)) h = absurd h.4
   stays own stay again recertified (Err (faults.Certificate refusal)) h = absurd h.4
   stays own stay again recertified (Err (faults.Device role written)) h = tt

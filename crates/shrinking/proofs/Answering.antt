@@ -12,7 +12,7 @@ use Rattle.express_syntax.specs.Texts as schema_texts
 use Rattle.express_syntax.specs.declared.fault.SchemaFault.{SchemaFault}
 use Rattle.express_syntax.specs.declared.fault.SchemaFault.TheVariants as schemas
 use Rattle.schema_types.specs.Resolution.{IsNameFault}
-use Rattle.conformance.specs.Choices.{Choice, mergeable, unknown_choice, Mergeable}
+use Rattle.conformance.specs.Choices.{Choice, merge_options, unknown_choice, MergeOptions}
 use Rattle.merge_choices.specs.ChosenEntities.{IsChoiceFault}
 use Rattle.files.specs.Faults.{text_fault}
 use Rattle.files.specs.steps.Reads.{IsBeyond}
@@ -21,6 +21,7 @@ use Rattle.files.specs.declared.read.ReadFault.TheVariants as reads
 use Rattle.files.specs.declared.fault.Role.TheVariants as roles
 use Rattle.files.specs.declared.fault.FileFault.{FileFault}
 use Rattle.files.specs.declared.fault.FileFault.TheVariants as files
+use Rattle.reports.specs.Devices.{FileFailsAs}
 use Rattle.reports.specs.Faults.{of_file, of_schema, unread}
 use Rattle.reports.specs.declared.fault.Fault.{Fault}
 use Rattle.reports.specs.declared.fault.Fault.TheVariants as faults
@@ -51,7 +52,7 @@ long_text limit None h =
     let many = length-replicate {A = ℕ} (suc limit) 0 in (replicate (suc limit) 0, tt, omega (arith, many))
 long_text limit (Some text) h = (text, refl, h)
 
-module _ (s : Schema) (chosen : Mergeable) (bytes : List ℕ) where
+module _ (s : Schema) (chosen : MergeOptions) (bytes : List ℕ) where
   -- nothing was written
   pub idle : (out cert : Option (List ℕ)) (r : Result Summary Fault) → FileAnswers s chosen bytes [] [] r
       → FileShrinks s chosen bytes (unwritten out) (unwritten cert) r
@@ -136,7 +137,7 @@ module _ (s : Schema) (chosen : Mergeable) (bytes : List ℕ) where
       by texts.Memory h = idle out cert (Err faults.Memory) (refl, refl)
 
 -- bytes that a source gave to its end
-pub given : (s : Schema) (chosen : Mergeable) (file left : Option (List ℕ)) (bytes : List ℕ)
+pub given : (s : Schema) (chosen : MergeOptions) (file left : Option (List ℕ)) (bytes : List ℕ)
     (out cert : Written) (r : Result Summary Fault) → Consumes file left bytes × IsAtEnd left
     → FileShrinks s chosen bytes out cert r → SourceShrinks s chosen file out cert r
 given s chosen file left bytes out cert r h k = record {
@@ -146,7 +147,7 @@ given s chosen file left bytes out cert r h k = record {
 }
 
 -- the file isn't read to its end
-pub not_given : (s : Schema) (chosen : Mergeable) (file out cert : Option (List ℕ)) (e : ReadFault) (r : Fault)
+pub not_given : (s : Schema) (chosen : MergeOptions) (file out cert : Option (List ℕ)) (e : ReadFault) (r : Fault)
     → r ≡ unread roles.File e → (e ≡ reads.TooLarge → IsBeyond (2 ^ 40) file)
     → SourceShrinks s chosen file (unwritten out) (unwritten cert) (Err r)
 not_given s chosen file out cert e r is beyond =
@@ -173,7 +174,7 @@ not_given s chosen file out cert e r is beyond =
 -- what is answered to a file is answered to a schema that lets it pass
 file_answered : (c : Choice) (strict : Bool) (s : Schema) (text bytes output certificate : List ℕ) → IsResolvedSchemaText s text
     → Passes strict s → unknown_choice s c ≡ None → (r : Result Summary Fault)
-    → FileAnswers s (mergeable s c) bytes output certificate r
+    → FileAnswers s (merge_options s c) bytes output certificate r
     → ShrinkAnswers c strict text bytes output certificate r
 file_answered c strict s text bytes output certificate has passes known (Ok m) h = (s, has, passes, known, h)
 file_answered c strict s text bytes output certificate has passes known (Err (faults.Schema f)) h = absurd h
@@ -204,7 +205,7 @@ file_answered c strict s text bytes output certificate has passes known (Err fau
 module _ (c : Choice) (strict : Bool) (text : List ℕ) where
   pub settled : (s : Schema) (file : Option (List ℕ)) (out cert : Written) (r : Result Summary Fault)
       → IsResolvedSchemaText s text → Passes strict s → unknown_choice s c ≡ None
-      → SourceShrinks s (mergeable s c) file out cert r → Shrinks c strict (Some text) file out cert r
+      → SourceShrinks s (merge_options s c) file out cert r → Shrinks c strict (Some text) file out cert r
   settled s file out cert r has passes known h =
       let k = h.shrinks in
       record {
@@ -331,3 +332,25 @@ schema_not_given c strict schema file out cert e r is beyond =
     by reads.Memory h =
         let text = some_text schema in
         with_text text.0 text.1 faults.Memory (λ bytes. (refl, refl))
+
+-- ---- want of memory
+
+-- nothing was merged
+pub unshrunk : (choice : Choice) (strict : Bool) (schema file output certificate : Option (List ℕ))
+    → Shrinks choice strict schema file (unwritten output) (unwritten certificate) (Err faults.Memory)
+unshrunk choice strict schema file output certificate = record {
+  text = (some_text schema).0;
+  bytes = (some_text file).0;
+  output = [];
+  certificate = [];
+  text_is = (some_text schema).1;
+  bytes_are = (some_text file).1;
+  answers = (refl, refl);
+  written = Appends-nil output;
+  certified = Appends-nil certificate;
+}
+
+-- it is the fault of no file
+pub no_file_told : (told : Option Bool) → IfSome told (FileFailsAs {T = Summary} (Err faults.Memory))
+no_file_told None = tt
+no_file_told (Some each) = tt

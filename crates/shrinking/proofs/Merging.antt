@@ -17,7 +17,8 @@ use Rattle.value_equality.specs.Standard.{IsStandard}
 use Rattle.value_equality.proofs.Rounds.{standard_is_valid, tables_decide}
 use Rattle.value_equality.proofs.Few.{rounds_are_few}
 use Rattle.express_syntax.specs.Schemas.{Schema}
-use Rattle.conformance.specs.Choices.{Mergeable}
+use Rattle.schema_semantics.specs.Names.{Name}
+use Rattle.conformance.specs.Choices.{MergeOptions}
 use Rattle.conformance.specs.declared.finding.Finding.{Finding}
 use Rattle.conformance.specs.SchemaMeanings.{Said}
 use Rattle.schema_constraints.specs.declared.finding.RuleFinding.{RuleFinding}
@@ -45,21 +46,22 @@ pub as_many : (x : Exchange) (n : ℕ) → n ≡ length x.names → n ≡ length
 as_many x n e =
     e ∙ ap length (sym (names-are x)) ∙ length-map (rows_of (structure x).sections) (λ (r : trees.ExchangeRow). r.name)
 
-pub same_findings : (s : Schema) (f : File) (fs : List Finding) (gs : List RuleFinding) (n unknown : ℕ) → fs ≡ []
-    → gs ≡ [] → n ≡ unknown → AreFindings s f [] [] unknown → AreFindings s f fs gs n
-same_findings s f fs gs n unknown none no_rules same found =
-    subst (λ l. AreFindings s f l gs n) (sym none)
-    (subst (λ l. AreFindings s f [] l n) (sym no_rules)
-    (subst (λ k. AreFindings s f [] [] k) (sym same) found))
+pub same_findings : (s : Schema) (others : List Name) (f : File) (fs : List Finding) (gs : List RuleFinding) (n unknown : ℕ) → fs ≡ []
+    → gs ≡ [] → n ≡ unknown → AreFindings s others f [] [] unknown
+    → AreFindings s others f fs gs n
+same_findings s others f fs gs n unknown none no_rules same found =
+    subst (λ l. AreFindings s others f l gs n) (sym none)
+    (subst (λ l. AreFindings s others f [] l n) (sym no_rules)
+    (subst (λ k. AreFindings s others f [] [] k) (sym same) found))
 
 -- a file of which nothing is found, and its tables
-pub record IsTabled (s : Schema) (chosen : Mergeable) (bytes : List ℕ) (x : Exchange) (unknown : ℕ) (first second : Table)
+pub record IsTabled (s : Schema) (chosen : MergeOptions) (bytes : List ℕ) (x : Exchange) (unknown : ℕ) (first second : Table)
     : Type 0 where
   pub reads : ReadsAs bytes x.header_bytes.now (structure x)
-  pub found : AreFindings s (structure x) [] [] unknown
+  pub found : AreFindings s chosen.other_names (structure x) [] [] unknown
   pub tables : (said : Said s) → AreTablesOf s said chosen (structure x) first second
 
-module _ (s : Schema) (chosen : Mergeable) (bytes : List ℕ) (x : Exchange) (unknown : ℕ) (first second : Table)
+module _ (s : Schema) (chosen : MergeOptions) (bytes : List ℕ) (x : Exchange) (unknown : ℕ) (first second : Table)
     (conforming : ConformsWhereNothingIsFound) (least : MergesAreLeast)
     (tabled : IsTabled s chosen bytes x unknown first second) where
   input : (said : Said s) → IsMergeInput s said chosen bytes
@@ -69,7 +71,7 @@ module _ (s : Schema) (chosen : Mergeable) (bytes : List ℕ) (x : Exchange) (un
         header_bytes = x.header_bytes.now;
         file = structure x;
         reads = tabled.reads;
-        conforms = (conforming s said (structure x) [] [] unknown tabled.found).0 (refl, refl);
+        conforms = (conforming s said chosen.other_names (structure x) [] [] unknown tabled.found).0 (refl, refl);
         rows = t.rows;
         are_rows = t.are_rows;
         population = t.population;
@@ -153,7 +155,8 @@ module _ (s : Schema) (chosen : Mergeable) (bytes : List ℕ) (x : Exchange) (un
       ∙ sym (ap (λ (f : File). length (rows_of f.sections)) (merged.least said).is_merged)
 
   -- all of what is done
-  pub done : length bytes ≤ 2 ^ 40 → (m : Summary) → IsReport s (structure x) m.report → IsClean m.report
+  pub done : length bytes ≤ 2 ^ 40 → (m : Summary)
+      → IsReport s chosen.other_names (structure x) m.report → IsClean m.report
       → m.kept ≡ length second.classes → m.rounds ≡ second.rounds
       → IsDone s chosen bytes (smaller_text x second) (certificate_text first second) m
   unfolding input merge merged

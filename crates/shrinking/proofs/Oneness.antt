@@ -16,7 +16,7 @@ use Rattle.schema_semantics.specs.Parts.{AreUnchecked}
 use Rattle.schema_semantics.proofs.Listed.{unchecked-are-one}
 use Rattle.schema_unchecked_declarations.specs.UncheckedLists.{unchecked_in, unchecked_of}
 use Rattle.schema_unchecked_declarations.specs.declared.list.Unchecked.{Unchecked as Part}
-use Rattle.conformance.specs.Choices.{Choice, mergeable, unknown_choice, Mergeable}
+use Rattle.conformance.specs.Choices.{Choice, merge_options, unknown_choice, MergeOptions}
 use Rattle.conformance.specs.SchemaMeanings.{Said, FileConforms}
 use Rattle.file_findings.specs.Findings.{ConformsWhereNothingIsFound}
 use Rattle.value_equality.specs.Laws.{StandardIsUnique}
@@ -59,7 +59,7 @@ as_many s us vs h k =
     ∙ length-map vs unchecked_of))
 
 -- A file is merged in one way, and one thing is said of that.
-module _ (s : Schema) (chosen : Mergeable) (bytes output certificate again recertified : List ℕ) (m n : Summary)
+module _ (s : Schema) (chosen : MergeOptions) (bytes output certificate again recertified : List ℕ) (m n : Summary)
     (reports : ReportsAreOne) (tables : StandardIsUnique)
     (done : IsDone s chosen bytes output certificate m) (redone : IsDone s chosen bytes again recertified n) where
   abbrev said : Said s
@@ -95,8 +95,8 @@ module _ (s : Schema) (chosen : Mergeable) (bytes output certificate again recer
 
   reports_once : report_text m.report ≡ report_text n.report
   reports_once =
-      reports s done.reported.file m.report n.report done.reported.report
-      (subst (λ f. IsReport s f n.report)
+      reports s chosen.other_names done.reported.file m.report n.report done.reported.report
+      (subst (λ f. IsReport s chosen.other_names f n.report)
       (files_once bytes redone.reported.file done.reported.file redone.reported.has_file done.reported.has_file)
       redone.reported.report)
 
@@ -123,9 +123,9 @@ module _ (c : Choice) (strict : Bool) (text bytes : List ℕ) where
     -- what is found of the file
     abbrev AtFound : Schema → File → Type 0
     AtFound s f =
-        (((p : Report) × (r ≡ Err (faults.Findings p)) × IsReport s f p × (IsClean p → ⊥))
+        (((p : Report) × (r ≡ Err (faults.Findings p)) × IsReport s c.other_names f p × (IsClean p → ⊥))
         × AreUnwritten output certificate)
-        ⊎ ((m : Summary) × (r ≡ Ok m) × IsDone s (mergeable s c) bytes output certificate m)
+        ⊎ ((m : Summary) × (r ≡ Ok m) × IsDone s (merge_options s c) bytes output certificate m)
 
     -- the text of the file
     abbrev AtFile : Schema → Type 0
@@ -188,13 +188,14 @@ module _ (c : Choice) (strict : Bool) (text bytes : List ℕ) where
 
   -- a file that is merged has no findings
   merged_is_clean : ConformsWhereNothingIsFound → (s : Schema) (f : File) (output certificate : List ℕ) (m : Summary) (p : Report)
-      → IsDone s (mergeable s c) bytes output certificate m → HasFile f bytes → IsReport s f p → IsClean p
+      → IsDone s (merge_options s c) bytes output certificate m → HasFile f bytes
+      → IsReport s c.other_names f p → IsClean p
   merged_is_clean law s f output certificate m p done has report =
       let said : Said s = done.merged.some_said in
-      let input : IsMergeInput s said (mergeable s c) bytes = (done.merged.merge said).input in
+      let input : IsMergeInput s said (merge_options s c) bytes = (done.merged.merge said).input in
       let one = reads_once bytes input.header_bytes has.header_bytes input.file f input.reads has.reads in
-      (law s said f p.findings.items p.rule_findings.items p.unknown report.findings).1
-      (subst (FileConforms s said) one.1 input.conforms)
+      (law s said c.other_names f p.findings.items p.rule_findings.items p.unknown report.findings).1
+      (subst (FileConforms s said c.other_names) one.1 input.conforms)
 
   -- what two answers say is what they are
   says : (r q x y : Result Summary Fault) → r ≡ x → q ≡ y → SummariesSayTheSame x y → SummariesSayTheSame r q
@@ -212,14 +213,14 @@ module _ (c : Choice) (strict : Bool) (text bytes : List ℕ) where
         → AtFound again recertified q s f → AreTheSame
     at_found s f has (inl a) (inl b) =
         neither (says r q (Err (faults.Findings a.0.0)) (Err (faults.Findings b.0.0)) a.0.1 b.0.1
-        (reports s f a.0.0 b.0.0 a.0.2 b.0.2)) a.1 b.1
+        (reports s c.other_names f a.0.0 b.0.0 a.0.2 b.0.2)) a.1 b.1
     at_found s f has (inl a) (inr b) =
         absurd (a.0.3 (merged_is_clean law s f again recertified b.0 a.0.0 b.2 has a.0.2))
     at_found s f has (inr a) (inl b) =
         absurd (b.0.3 (merged_is_clean law s f output certificate a.0 b.0.0 a.2 has b.0.2))
     at_found s f has (inr a) (inr b) =
         let one =
-        done_once s (mergeable s c) bytes output certificate again recertified a.0 b.0 reports tables a.2 b.2 in
+        done_once s (merge_options s c) bytes output certificate again recertified a.0 b.0 reports tables a.2 b.2 in
         (says r q (Ok a.0) (Ok b.0) a.1 b.1 one.0, one.1, one.2)
 
     at_file : (s : Schema) → AtFile output certificate r s → AtFile again recertified q s → AreTheSame

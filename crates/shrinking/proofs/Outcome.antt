@@ -18,14 +18,14 @@ use Rattle.checking.specs.Reporting.{IsReport}
 use Rattle.shrinking.specs.steps.ComputedAnswers.{FileShrinks}
 use Rattle.shrinking.proofs.Answering.{idle, unwritten}
 use Rattle.shrinking.proofs.Merging.{IsTabled}
-use Rattle.conformance.specs.Choices.{Mergeable}
+use Rattle.conformance.specs.Choices.{MergeOptions}
 
 -- something is found
-pub faulty : (s : Schema) (chosen : Mergeable) (bytes : List ℕ) (x : Exchange) (out cert : Option (List ℕ)) (m : Merging)
+pub faulty : (s : Schema) (chosen : MergeOptions) (bytes : List ℕ) (x : Exchange) (out cert : Option (List ℕ)) (m : Merging)
     (found : Found) (r : Report) → m ≡ Faulty found → Merges s chosen (structure x) m → length bytes ≤ 2 ^ 40
     → ReadsAs bytes x.header_bytes.now (structure x)
-    → (AreFindings s (structure x) found.findings.items found.rules.findings.items found.rules.unknown
-    → IsReport s (structure x) r) → r.findings ≡ found.findings → r.rule_findings ≡ found.rules.findings
+    → (AreFindings s chosen.other_names (structure x) found.findings.items found.rules.findings.items found.rules.unknown
+    → IsReport s chosen.other_names (structure x) r) → r.findings ≡ found.findings → r.rule_findings ≡ found.rules.findings
     → FileShrinks s chosen bytes (unwritten out) (unwritten cert) (Err (Findings r))
 faulty s chosen bytes x out cert m found r is merges within reads report same same_rules =
     let found_all = subst (Merges s chosen (structure x)) is merges in
@@ -42,7 +42,7 @@ faulty s chosen bytes x out cert m found r is merges within reads report same sa
     )
 
 -- nothing is
-pub is_tabled : (s : Schema) (chosen : Mergeable) (bytes : List ℕ) (x : Exchange) (m : Merging) (unknown : ℕ)
+pub is_tabled : (s : Schema) (chosen : MergeOptions) (bytes : List ℕ) (x : Exchange) (m : Merging) (unknown : ℕ)
     (first : Table) (second : Option Table) (last : Table) → m ≡ Clean unknown first second
     → last ≡ last_of first second → Merges s chosen (structure x) m → ReadsAs bytes x.header_bytes.now (structure x)
     → IsTabled s chosen bytes x unknown (table_of first) (table_of last)

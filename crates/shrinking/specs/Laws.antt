@@ -3,7 +3,7 @@ use Rattle.std.specs.Prelude.{◌≡◌, ◌<◌, ◌^◌, ℕ, Bool, List, leng
 use Rattle.step_structures.specs.declared.fault.FaultKind.{FaultKind}
 use Rattle.step_structures.specs.Trees.{File}
 use Rattle.express_syntax.specs.Schemas.{Schema}
-use Rattle.conformance.specs.Choices.{Choice, Mergeable}
+use Rattle.conformance.specs.Choices.{Choice, MergeOptions}
 use Rattle.files.specs.declared.fault.Role.TheVariants as roles
 use Rattle.reports.specs.Lines.{unchecked_line, report_text}
 use Rattle.reports.specs.declared.report.Report.{Report}
@@ -18,9 +18,9 @@ use Rattle.shrinking.specs.Shrinking.{IsClean, IsMergedFile, ShrinkAnswers, Shri
 
 -- An output has no findings. Its text has no fault, except that it may be larger than 2^40 bytes.
 abbrev pub OwnOutputsPass : Type 0
-OwnOutputsPass = (s : Schema) (chosen : Mergeable) (bytes output : List ℕ) → IsMergedFile s chosen bytes output
+OwnOutputsPass = (s : Schema) (chosen : MergeOptions) (bytes output : List ℕ) → IsMergedFile s chosen bytes output
     → ((kind : FaultKind) (place : ℕ) → HasFileFault kind place output → 2 ^ 40 < length output)
-    × ((f : File) (r : Report) → HasFile f output → IsReport s f r → IsClean r)
+    × ((f : File) (r : Report) → HasFile f output → IsReport s chosen.other_names f r → IsClean r)
 
 -- Merging an output again writes the same output, or fails: memory runs out, a device fails or the output is too
 -- large.

@@ -7,7 +7,7 @@ use Rattle.express_syntax.specs.declared.fault.SchemaFault.{SchemaFault}
 use Rattle.express_syntax.specs.declared.fault.SchemaFault.TheVariants as schemas
 use Rattle.schema_semantics.specs.Parts.{AreUnchecked}
 use Rattle.schema_unchecked_declarations.specs.UncheckedLists.{unchecked_in}
-use Rattle.conformance.specs.Choices.{Choice, mergeable, unknown_choice, Mergeable}
+use Rattle.conformance.specs.Choices.{Choice, merge_options, unknown_choice, MergeOptions}
 use Rattle.conformance.specs.SchemaMeanings.{Said}
 use Rattle.merge_choices.specs.ChosenEntities.{IsChoiceFault}
 use Rattle.value_equality.specs.Tables.{Table}
@@ -42,14 +42,14 @@ IsClean r = (r.findings.items ≡ []) × (r.rule_findings.items ≡ [])
 -- pinned instances are distinguished by identity. The output reads as the quotient of the input and conforms too,
 -- and no image of the input has fewer instances. This holds under every meaning of the schema, and the schema has
 -- one.
-pub record IsMergedFile (s : Schema) (chosen : Mergeable) (bytes output : List ℕ) : Type 0 where
+pub record IsMergedFile (s : Schema) (chosen : MergeOptions) (bytes output : List ℕ) : Type 0 where
   pub some_said : Said s
   pub merge : (said : Said s) → IsMergeOf s said chosen bytes output
   pub least : (said : Said s) → IsLeast s said chosen bytes output (merge said)
 
 -- What is certified. The certificate is that of the two tables that partition refinement makes of the instances: by
 -- the weak pins, and by the pins.
-pub record IsCertified (s : Schema) (chosen : Mergeable) (bytes output : List ℕ) (merged : IsMergedFile s chosen bytes output)
+pub record IsCertified (s : Schema) (chosen : MergeOptions) (bytes output : List ℕ) (merged : IsMergedFile s chosen bytes output)
     (first second : Table) (certificate : List ℕ) : Type 0 where
   pub first_is : (said : Said s)
       → IsStandard (merged.merge said).input.rows (merged.merge said).input.pins.weak first
@@ -59,11 +59,11 @@ pub record IsCertified (s : Schema) (chosen : Mergeable) (bytes output : List �
 
 -- What is reported: the report on the file, which has no findings, the number of the output's instances, and the
 -- rounds of the second table. Neither table has more rounds than the file has instances.
-pub record IsReported (s : Schema) (chosen : Mergeable) (bytes output : List ℕ) (merged : IsMergedFile s chosen bytes output)
+pub record IsReported (s : Schema) (chosen : MergeOptions) (bytes output : List ℕ) (merged : IsMergedFile s chosen bytes output)
     (first second : Table) (m : Summary) : Type 0 where
   pub file : File
   pub has_file : HasFile file bytes
-  pub report : IsReport s file m.report
+  pub report : IsReport s chosen.other_names file m.report
   pub clean : IsClean m.report
   pub kept : (said : Said s) → m.kept ≡ length (rows_of (merged.least said).file.sections)
   pub rounds : m.rounds ≡ second.rounds
@@ -72,7 +72,7 @@ pub record IsReported (s : Schema) (chosen : Mergeable) (bytes output : List ℕ
 
 -- A file of these bytes, merged according to a schema of which these entity data types are chosen, has this output,
 -- this certificate and this summary.
-pub record IsDone (s : Schema) (chosen : Mergeable) (bytes output certificate : List ℕ) (m : Summary) : Type 0 where
+pub record IsDone (s : Schema) (chosen : MergeOptions) (bytes output certificate : List ℕ) (m : Summary) : Type 0 where
   pub merged : IsMergedFile s chosen bytes output
   pub first : Table
   pub second : Table
@@ -92,12 +92,12 @@ AreUnwritten output certificate = (output ≡ []) × (certificate ≡ [])
 -- What is returned for a file of these bytes, if these entity data types of the schema are chosen, and what is
 -- written as output and as certificate. Nothing is written unless the whole file is checked, and the certificate is
 -- written after all of the output.
-abbrev pub FileAnswers : Schema → Mergeable → List ℕ → List ℕ → List ℕ → Result Summary Fault → Type 0
+abbrev pub FileAnswers : Schema → MergeOptions → List ℕ → List ℕ → List ℕ → Result Summary Fault → Type 0
 FileAnswers s chosen bytes output certificate (Ok m) = IsDone s chosen bytes output certificate m
 FileAnswers s chosen bytes output certificate (Err (faults.Text roles.File kind place)) =
     HasFileFault kind place bytes × AreUnwritten output certificate
 FileAnswers s chosen bytes output certificate (Err (faults.Findings r)) =
-    ((f : File) × HasFile f bytes × IsReport s f r × (IsClean r → ⊥)) × AreUnwritten output certificate
+    ((f : File) × HasFile f bytes × IsReport s chosen.other_names f r × (IsClean r → ⊥)) × AreUnwritten output certificate
 FileAnswers s chosen bytes output certificate (Err (faults.Device roles.File written)) =
     (written ≡ 0) × AreUnwritten output certificate
 FileAnswers s chosen bytes output certificate (Err (faults.Device roles.Output written)) =
@@ -132,7 +132,7 @@ ShrinkAnswers c strict text bytes output certificate (Err (faults.Device roles.S
 ShrinkAnswers c strict text bytes output certificate (Err faults.Memory) = AreUnwritten output certificate
 ShrinkAnswers c strict text bytes output certificate r =
     (s : Schema) × IsResolvedSchemaText s text × Passes strict s × (unknown_choice s c ≡ None)
-    × FileAnswers s (mergeable s c) bytes output certificate r
+    × FileAnswers s (merge_options s c) bytes output certificate r
 
 -- What `shrink` returns. The texts are the bytes to come, if the sources reveal them. What is written follows what
 -- the sinks held, if they reveal that.

@@ -3,11 +3,12 @@
 ghost use Rattle.std.specs.Prelude.{◌≡◌, ◌≤◌, ◌^◌, ℕ, List, [], false, length};
 ghost use Rattle.schema_names.specs.Schemas.{the_schema};
 ghost use Rattle.schema_resolution.specs.SoundGraphs.{IsSound};
-ghost use Rattle.conformance.specs.Choices.{Mergeable};
+ghost use Rattle.schema_semantics.specs.Names.{Name};
+ghost use Rattle.conformance.specs.Choices.{MergeOptions};
 ghost use Rattle.value_equality.specs.TableViews.{table_of};
 ghost use Rattle.step_structures.specs.Texts.{ReadsAs};
 ghost use Rattle.step_exchange.specs.Exchanges.{structure};
-ghost use Rattle.merge_choices.specs.ChosenEntities.{AreChosen};
+ghost use Rattle.merge_choices.specs.ChosenEntities.{AreOptionsOf};
 ghost use Rattle.file_findings.specs.Findings.{AreFindings};
 ghost use Rattle.checking.specs.Reporting.{IsReport};
 ghost use Rattle.files.specs.declared.fault.Role.TheVariants as roles;
@@ -25,10 +26,10 @@ use merge_tables::file_merge::{Merging, last_of, merge_tables};
 use merge_theorems::merged_file_laws::merges_are_least;
 use reports::fault::{Fault, of_file};
 use reports::report::Report;
+use resources::Resources;
 use rule_outcomes::report::RuleReport;
 use schema_resolution::resolved_schema::ResolvedSchema;
 use std::alloc::Global;
-use std::hash::RandomState;
 use step_exchange::structure::Exchange;
 use value_equality::table::Table;
 
@@ -38,10 +39,10 @@ fn report<'s>(
     found: Found<'s>,
     exchange: &Exchange<'_>,
 ) -> Report<'s>
-    ensures report { AreFindings (the_schema graph.entry.types.names)
+    ensures report { (others : List Name) → AreFindings (the_schema graph.entry.types.names) others
         (structure exchange.now) found.entry.findings.items found.entry.rules.findings.items
         found.entry.rules.unknown
-        → IsReport (the_schema graph.entry.types.names) (structure exchange.now) result }
+        → IsReport (the_schema graph.entry.types.names) others (structure exchange.now) result }
     ensures findings { result.findings ≡ found.entry.findings }
     ensures rules { result.rule_findings ≡ found.entry.rules.findings }
 {
@@ -84,9 +85,10 @@ fn summary<'s>(
     unknown: u64,
     second: &Table,
 ) -> Summary<'s>
-    ensures report { AreFindings (the_schema graph.entry.types.names)
+    ensures report { (others : List Name) → AreFindings (the_schema graph.entry.types.names) others
         (structure exchange.now) [] [] unknown
-        → IsReport (the_schema graph.entry.types.names) (structure exchange.now) result.report }
+        → IsReport (the_schema graph.entry.types.names) others (structure exchange.now)
+        result.report }
     ensures clean { IsClean result.report }
     ensures kept { result.kept ≡ length (table_of second.now).classes }
     ensures rounds { result.rounds ≡ (table_of second.now).rounds }
@@ -102,8 +104,7 @@ fn summary<'s>(
 /// Writes the smaller file of an exchange structure, and its certificate, if the file has no
 /// findings.
 pub(crate) fn shrink_exchange<'s: 'a, 'a, O: Sink, C: Sink>(
-    alloc: Global,
-    keys: RandomState,
+    resources: Resources,
     graph: ResolvedSchema<'s, '_>,
     chosen: &Chosen,
     exchange: &Exchange<'a>,
@@ -111,8 +112,8 @@ pub(crate) fn shrink_exchange<'s: 'a, 'a, O: Sink, C: Sink>(
     certificate: &mut C,
 ) -> Result<Summary<'s>, Fault<'s>>
     requires sound { IsSound graph }
-    ensures shrinks { (those : Mergeable)
-        → AreChosen (the_schema graph.entry.types.names) those chosen.now
+    ensures shrinks { (those : MergeOptions)
+        → AreOptionsOf graph.entry.types.names those chosen.now
         → (bytes : List ℕ) → length bytes ≤ 2 ^ 40
         → ReadsAs bytes exchange.now.header_bytes.now (structure exchange.now)
         → FileShrinks (the_schema graph.entry.types.names) those bytes
@@ -127,7 +128,7 @@ pub(crate) fn shrink_exchange<'s: 'a, 'a, O: Sink, C: Sink>(
 {
     conforms_where_nothing_is_found();
     merges_are_least();
-    let merging = match merge_tables(alloc, keys, &graph, chosen, exchange) {
+    let merging = match merge_tables(resources, &graph, chosen, exchange) {
         Ok(merging) => merging,
         Err(_) => return Err(Fault::Memory),
     };
@@ -139,8 +140,8 @@ pub(crate) fn shrink_exchange<'s: 'a, 'a, O: Sink, C: Sink>(
             second,
         } => {
             let last = last_of(&first, &second);
-            let summary = summary(alloc, graph, exchange, unknown, last);
-            match write_both(alloc, keys, exchange, &first, last, out, certificate) {
+            let summary = summary(resources.alloc, graph, exchange, unknown, last);
+            match write_both(resources, exchange, &first, last, out, certificate) {
                 Ok(()) => Ok(summary),
                 Err(fault) => Err(of_file(fault)),
             }

@@ -14,12 +14,16 @@ ghost use Rattle.std.specs.Prelude.{
 };
 ghost use Rattle.schema_names.specs.Schemas.{the_schema};
 ghost use Rattle.schema_resolution.specs.SoundGraphs.{IsSound};
-ghost use Rattle.conformance.specs.Choices.{Mergeable};
-ghost use Rattle.merge_choices.specs.ChosenEntities.{AreChosen, choice_of};
-ghost use Rattle.checking.specs.Checks.{IsResolvedSchemaText};
+ghost use Rattle.conformance.specs.Choices.{MergeOptions};
+ghost use Rattle.merge_choices.specs.ChosenEntities.{AreOptionsOf, choice_of};
 ghost use Rattle.files.specs.declared.fault.Role.TheVariants as roles;
 ghost use Rattle.reports.specs.Devices.{FileFailsAs, is_device};
-ghost use Rattle.shrinking.specs.steps.ComputedAnswers.{FileShrinks, IsRefused, SourceShrinks};
+ghost use Rattle.shrinking.specs.steps.ComputedAnswers.{
+  FileShrinks,
+  IsRefused,
+  IsTextFor,
+  SourceShrinks,
+};
 ghost use Rattle.shrinking.specs.Shrinking.{Passes, Shrinks, written_to};
 
 use crate::merge::shrink_exchange;
@@ -30,16 +34,14 @@ use files::fault::{FileFault, LIMIT, Role};
 use files::read::read_whole;
 use merge_choices::choice::{Choice, Chosen};
 use reports::fault::{Fault, of_file, of_schema, too_large, unread};
+use resources::Resources;
 use schema_resolution::resolution::resolve;
 use schema_resolution::resolved_schema::ResolvedSchema;
-use std::alloc::Global;
-use std::hash::RandomState;
 use step_exchange::exchange::read_exchange;
 
 /// Merges a file of these bytes.
 fn shrink_file<'s, O: Sink, C: Sink>(
-    alloc: Global,
-    keys: RandomState,
+    resources: Resources,
     graph: ResolvedSchema<'s, '_>,
     chosen: &Chosen,
     bytes: &[u8],
@@ -48,8 +50,8 @@ fn shrink_file<'s, O: Sink, C: Sink>(
 ) -> Result<Summary<'s>, Fault<'s>>
     requires sound { IsSound graph }
     requires within { length bytes.now ≤ 2 ^ 40 }
-    ensures shrinks { (those : Mergeable)
-        → AreChosen (the_schema graph.entry.types.names) those chosen.now
+    ensures shrinks { (those : MergeOptions)
+        → AreOptionsOf graph.entry.types.names those chosen.now
         → FileShrinks (the_schema graph.entry.types.names) those bytes.now
         (written_to O.held out.old out.new) (written_to C.held certificate.old certificate.new)
         result }
@@ -60,16 +62,15 @@ fn shrink_file<'s, O: Sink, C: Sink>(
     ensures certificate_fault { C.has_failed certificate.old ≡ false
         → C.has_failed certificate.new ≡ is_device roles.Certificate result }
 {
-    match read_exchange(alloc, keys, bytes) {
-        Ok(exchange) => shrink_exchange(alloc, keys, graph, chosen, &exchange, out, certificate),
+    match read_exchange(resources.alloc, resources.keys, bytes) {
+        Ok(exchange) => shrink_exchange(resources, graph, chosen, &exchange, out, certificate),
         Err(fault) => Err(of_file(FileFault::of_text(Role::File, fault))),
     }
 }
 
 /// Reads the file from a source and merges it.
 fn shrink_source<'s, F: Source, O: Sink, C: Sink>(
-    alloc: Global,
-    keys: RandomState,
+    resources: Resources,
     graph: ResolvedSchema<'s, '_>,
     chosen: &Chosen,
     file: &mut F,
@@ -77,8 +78,8 @@ fn shrink_source<'s, F: Source, O: Sink, C: Sink>(
     certificate: &mut C,
 ) -> Result<Summary<'s>, Fault<'s>>
     requires sound { IsSound graph }
-    ensures shrinks { (those : Mergeable)
-        → AreChosen (the_schema graph.entry.types.names) those chosen.now
+    ensures shrinks { (those : MergeOptions)
+        → AreOptionsOf graph.entry.types.names those chosen.now
         → SourceShrinks (the_schema graph.entry.types.names) those (F.to_come file.old)
         (written_to O.held out.old out.new) (written_to C.held certificate.old certificate.new)
         result }
@@ -91,8 +92,8 @@ fn shrink_source<'s, F: Source, O: Sink, C: Sink>(
         → C.has_failed certificate.new ≡ is_device roles.Certificate result }
     ensures file_told { IfSome (F.fails file.old) (FileFailsAs result) }
 {
-    match read_whole(alloc, file, LIMIT) {
-        Ok(bytes) => shrink_file(alloc, keys, graph, chosen, &bytes, out, certificate),
+    match read_whole(resources.alloc, file, LIMIT) {
+        Ok(bytes) => shrink_file(resources, graph, chosen, &bytes, out, certificate),
         Err(fault) => Err(unread(Role::File, fault)),
     }
 }
@@ -107,8 +108,7 @@ fn is_refused(choice: &Choice, graph: &ResolvedSchema<'_, '_>) -> bool
 
 /// Merges the file of a source according to a schema whose names are resolved.
 fn shrink_graph<'s, F: Source, O: Sink, C: Sink>(
-    alloc: Global,
-    keys: RandomState,
+    resources: Resources,
     graph: ResolvedSchema<'s, '_>,
     choice: &Choice,
     file: &mut F,
@@ -116,8 +116,8 @@ fn shrink_graph<'s, F: Source, O: Sink, C: Sink>(
     certificate: &mut C,
 ) -> Result<Summary<'s>, Fault<'s>>
     requires sound { IsSound graph }
-    ensures shrinks { (text : List ℕ) → IsResolvedSchemaText
-        (the_schema graph.entry.types.names) text
+    ensures shrinks { (text : List ℕ)
+        → IsTextFor graph.entry.types.names (choice_of choice.now) text
         → Shrinks (choice_of choice.now) choice.now.strict (Some text) (F.to_come file.old)
         (written_to O.held out.old out.new) (written_to C.held certificate.old certificate.new)
         result }
@@ -133,16 +133,15 @@ fn shrink_graph<'s, F: Source, O: Sink, C: Sink>(
     if is_refused(choice, &graph) {
         return Err(Fault::Unchecked(graph.into_unchecked()));
     }
-    match choice.settle(alloc, &graph.types) {
-        Ok(chosen) => shrink_source(alloc, keys, graph, &chosen, file, out, certificate),
+    match choice.settle(resources.alloc, &graph.types) {
+        Ok(chosen) => shrink_source(resources, graph, &chosen, file, out, certificate),
         Err(fault) => Err(of_schema(fault)),
     }
 }
 
 /// Merges the file of a source according to a schema of these bytes.
 fn shrink_by<'s, F: Source, O: Sink, C: Sink>(
-    alloc: Global,
-    keys: RandomState,
+    resources: Resources,
     schema: &'s [u8],
     choice: &Choice,
     file: &mut F,
@@ -162,12 +161,17 @@ fn shrink_by<'s, F: Source, O: Sink, C: Sink>(
         → C.has_failed certificate.new ≡ is_device roles.Certificate result }
     ensures file_told { IfSome (F.fails file.old) (FileFailsAs result) }
 {
-    let tree = match read_schema(alloc, schema) {
+    let tree = match read_schema(resources.alloc, schema) {
         Ok(tree) => tree,
         Err(fault) => return Err(of_schema(fault)),
     };
-    match resolve(alloc, keys, &tree) {
-        Ok(graph) => shrink_graph(alloc, keys, graph, choice, file, out, certificate),
+    let other_names = match choice.copy_other_names() {
+        Ok(names) => names,
+        Err(_) => return Err(Fault::Memory),
+    };
+    let named = tree.with_other_names(other_names);
+    match resolve(resources.alloc, resources.keys, &named) {
+        Ok(graph) => shrink_graph(resources, graph, choice, file, out, certificate),
         Err(fault) => Err(of_schema(fault)),
     }
 }
@@ -176,8 +180,8 @@ fn shrink_by<'s, F: Source, O: Sink, C: Sink>(
 /// nothing pins. Writes the smaller file to `out` and then its certificate to `certificate`.
 ///
 /// The smaller file conforms to the schema as the file does, and no image of the file has fewer
-/// instances. The file is read to its end if schema and choice have no fault. Names are hashed with
-/// `keys`.
+/// instances. The file is read to its end if schema and choice have no fault. Names are hashed with the
+/// keys of `resources`.
 ///
 /// # Errors
 /// The first of these; before the last two, nothing was written:
@@ -195,8 +199,7 @@ fn shrink_by<'s, F: Source, O: Sink, C: Sink>(
 ///
 /// `Memory` if memory runs out, at any time; nothing was written then.
 pub fn shrink<'s, F: Source, O: Sink, C: Sink>(
-    alloc: Global,
-    keys: RandomState,
+    resources: Resources,
     schema: &'s [u8],
     choice: &Choice,
     file: &mut F,
@@ -221,5 +224,5 @@ pub fn shrink<'s, F: Source, O: Sink, C: Sink>(
     if schema.len() as u64 > LIMIT {
         return Err(too_large(Role::Schema));
     }
-    shrink_by(alloc, keys, schema, choice, file, out, certificate)
+    shrink_by(resources, schema, choice, file, out, certificate)
 }

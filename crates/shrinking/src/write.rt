@@ -14,8 +14,7 @@ use devices::device::Sink;
 use files::fault::{FileFault, Role};
 use merge_output::fault::RewriteFault;
 use merge_output::rewrite::rewrite;
-use std::alloc::Global;
-use std::hash::RandomState;
+use resources::Resources;
 use step_exchange::structure::Exchange;
 use value_equality::table::Table;
 
@@ -33,10 +32,9 @@ fn of_rewrite(fault: RewriteFault) -> FileFault
 }
 
 /// Writes the smaller file of an exchange structure by the second table, then the certificate of
-/// both tables. Names are hashed with `keys`.
+/// both tables. Names are hashed with the keys of `resources`.
 pub(crate) fn write_both<O: Sink, C: Sink>(
-    alloc: Global,
-    keys: RandomState,
+    resources: Resources,
     exchange: &Exchange<'_>,
     first: &Table,
     second: &Table,
@@ -53,7 +51,7 @@ pub(crate) fn write_both<O: Sink, C: Sink>(
     ensures certificate_fault { C.has_failed certificate.old ≡ false
         → C.has_failed certificate.new ≡ is_written roles.Certificate result }
 {
-    if let Err(fault) = rewrite(alloc, keys, exchange, second, out) {
+    if let Err(fault) = rewrite(resources.alloc, resources.keys, exchange, second, out) {
         return Err(of_rewrite(fault));
     }
     match write_certificate(first, second, certificate) {

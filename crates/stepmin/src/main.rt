@@ -5,18 +5,21 @@
 //! - `stepmin shrink SCHEMA FILE OUT CERT` writes a file with its value-equal instances merged, and a
 //!   certificate of the merge.
 //! - `stepmin verify SCHEMA FILE OUT CERT` reports whether a certificate proves an output.
+//! - `stepmin presets` lists the presets of `--merge`.
 #![tactic(auto)]
 
 use command_line::command_words::{Refusal, Request, read_words, unread_words};
 use command_line::merge_words::ShrinkRequest;
 use commands::command::{refuse, refuse_to_read, run_command};
 use commands::ending::report;
+use commands::presets::tell_presets;
 use devices::counted::Counted;
 use devices::device::Sink;
 use file_store::clash::{Clash, Paths, clash_of};
 use file_store::folder::Folder;
 use file_store::standard_streams::hold_closed_streams;
 use files::fault::{FileFault, print_line};
+use resources::Resources;
 use std::alloc::Global;
 use std::env::Env;
 use std::fs::File;
@@ -97,6 +100,7 @@ fn run<R: AllocGlobal + RandomSource + Files<File = File>, O: Sink, E: Sink>(
     err: &mut E,
 ) -> u8 {
     let asked = match read_words(rt.alloc(), words) {
+        Ok(Request::Presets) => return tell_presets(out),
         Ok(asked) => asked,
         Err(refusal) => return refuse(refusal, out, err),
     };
@@ -112,7 +116,11 @@ fn run<R: AllocGlobal + RandomSource + Files<File = File>, O: Sink, E: Sink>(
         return refuse_to_read(err);
     };
     let mut store = Folder::new(rt.alloc(), rt);
-    let status = run_command(rt.alloc(), keys, words, &mut store, out, err);
+    let resources = Resources {
+        alloc: rt.alloc(),
+        keys,
+    };
+    let status = run_command(resources, words, &mut store, out, err);
     settled(store, status, err)
 }
 

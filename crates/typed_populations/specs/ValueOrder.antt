@@ -10,6 +10,9 @@ use Rattle.step_values.specs.AgreementTests.{value_count}
 use Rattle.step_values.specs.steps.Slots.{nth}
 use Rattle.step_values.specs.Values.{Value, Values, none, more}
 use Rattle.step_values.specs.Views.{word_of}
+use Rattle.step_exchange.specs.declared.structure.Exchange.{Exchange}
+use Rattle.value_equality.specs.Views.{Head, heads_seen}
+use Rattle.typed_populations.specs.Rows.{section_numbers}
 use Rattle.value_equality.specs.SortedTypes.{AreInOrder}
 use Rattle.value_equality.specs.declared.row.RowHead.{RowHead}
 use Rattle.schema_underlying_types.specs.BaseViews.{name_at}
@@ -110,3 +113,8 @@ abbrev pub heads_made : ℕ → List ℕ → List ℕ → List (Option ℕ) → 
 heads_made formless (k ∷ ks) (y ∷ ys) (n ∷ ns) =
     record { name = y; section = k; type_list = unwrap_or n formless } ∷ heads_made formless ks ys ns
 heads_made formless ks ys ns = []
+
+-- The heads of the rows of a file's instances, whose form numbers are given, with the sorted types of each form.
+abbrev pub sorted_heads : List Order → Exchange → List (Option ℕ) → List Head
+sorted_heads orders x form_of =
+    heads_seen (types_each orders) (heads_made (length orders) (section_numbers 0 0 x.sections.items) x.names form_of)

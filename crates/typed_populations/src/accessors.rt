@@ -14,6 +14,7 @@ ghost use Rattle.population_rows.specs.declared.form.SlotForm.{SlotForm};
 ghost use Rattle.population_rows.specs.steps.Rows.{form_at as form_in_rows};
 ghost use Rattle.population_rows.specs.Index.{found, place_of};
 ghost use Rattle.schema_underlying_types.specs.BaseViews.{name_at};
+ghost use Rattle.conformance.specs.OtherNames.{other_names};
 ghost use Rattle.conformance.specs.Populations.{value_of, types_at};
 ghost use Rattle.typed_populations.specs.Rows.{place_at};
 ghost use Rattle.typed_populations.specs.PopulationViews.{population_seen, nodes_seen};
@@ -44,7 +45,8 @@ impl<'s, 't, 'r, 'a> Population<'s, 't, 'r, 'a> {
     /// has no findings, rules aside (ISO 10303-21, 11).
     pub fn is_of_its_exchange(&self)
         ensures { ∥ IsTyped (the_schema self.now.types.now.names)
-            (structure self.now.exchange.now) (population_seen self.now) ∥₁ }
+            (other_names self.now.types.now.names.schema.now) (structure self.now.exchange.now)
+            (population_seen self.now) ∥₁ }
     {}
 
     /// Returns the number of instances.

@@ -27,7 +27,7 @@ ghost use Rattle.step_values.specs.References.{EachReferenceOf};
 ghost use Rattle.step_values.specs.steps.Targets.{LeadTo, ReferTo};
 ghost use Rattle.step_values.specs.Views.{word_of};
 ghost use Rattle.value_equality.specs.SortedTypes.{IsSettled};
-ghost use Rattle.value_equality.specs.Views.{head_names, heads_seen, rows_from, type_lists_of};
+ghost use Rattle.value_equality.specs.Views.{head_names, rows_from, type_lists_of};
 ghost use Rattle.population_rows.specs.Index.{found, place_of};
 ghost use Rattle.schema_names.specs.Schemas.{the_schema};
 ghost use Rattle.parameter_fits.specs.steps.References.{IsFound, AreFound};
@@ -44,6 +44,7 @@ ghost use Rattle.typed_populations.specs.ValueOrder.{
   rows_picked,
   types_each,
   heads_made,
+  sorted_heads,
 };
 
 use crate::copies::push_all_picked;
@@ -346,9 +347,8 @@ fn rows_with<'s: 'v, 'v>(
     requires leads { LeadTo exchange.now.names values.targets }
     requires refers { ReferTo exchange.now.names values.rows }
     requires indexed { (y : ℕ) → found index y ≡ place_of exchange.now.names y }
-    ensures { IfOk result (λ p. AllZip IsSettled (rows_from (heads_seen (types_each orders.now)
-        (heads_made (length orders.now) (section_numbers 0 0 exchange.now.sections.items)
-        exchange.now.names form_of.now)) values.entry.rows) p) }
+    ensures { IfOk result (λ p. AllZip IsSettled
+        (rows_from (sorted_heads orders.now exchange.now form_of.now) values.entry.rows) p) }
 {
     exchanges_are_named();
     let formless = beyond(orders)?;

@@ -1,5 +1,6 @@
 //! Typed populations.
 
+ghost use Rattle.conformance.specs.OtherNames.{other_names};
 ghost use Rattle.schema_names.specs.Schemas.{the_schema};
 ghost use Rattle.typed_populations.specs.TypedPopulations.{IsPopulation};
 
@@ -18,5 +19,6 @@ pub struct Population<'s, 't, 'r, 'a> {
     /// For each instance the values of its attributes, in the order of its form. They borrow from
     /// the text of the exchange structure.
     pub values: ValueRows<'a>,
-    pub ghost typed: { ∥ IsPopulation (the_schema types.now.names) exchange.now rows values ∥₁ },
+    pub ghost typed: { ∥ IsPopulation (the_schema types.now.names)
+        (other_names types.now.names.schema.now) exchange.now rows values ∥₁ },
 }

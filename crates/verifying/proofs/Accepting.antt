@@ -6,14 +6,14 @@ use Rattle.value_equality.specs.Rows.{Row}
 use Rattle.value_equality.specs.Tables.{shares}
 use Rattle.value_equality.proofs.Rounds.{tables_decide}
 use Rattle.express_syntax.specs.Schemas.{Schema}
-use Rattle.conformance.specs.Choices.{Mergeable}
+use Rattle.conformance.specs.Choices.{MergeOptions}
 use Rattle.conformance.specs.SchemaMeanings.{Said}
 use Rattle.merge_theorems.specs.Headline.{IsCheckedOutput, ChecksProve}
 use Rattle.verifying.specs.declared.proof.Proof.{Proof}
 use Rattle.verifying.specs.Verifying.{IsConformingInput, IsOutput, AreRows, BothHold, IsMergedOutput, Proves}
 
-module _ (s : Schema) (chosen : Mergeable) (input output certificate : List ℕ) (f g : File) (reads : IsConformingInput s input f)
-    (out : IsOutput s output g) (b : BothHold s chosen f certificate) (image : List Row) (are : AreRows s g image)
+module _ (s : Schema) (chosen : MergeOptions) (input output certificate : List ℕ) (f g : File)
+    (reads : IsConformingInput s chosen.other_names input f) (out : IsOutput s chosen.other_names output g) (b : BothHold s chosen f certificate) (image : List Row) (are : AreRows s g image)
     (merged : IsMergedOutput s chosen f certificate b g image) where
   checked : (said : Said s) → IsCheckedOutput s said chosen input output
   checked said =

@@ -6,12 +6,13 @@ use Rattle.step_structures.specs.Texts as texts
 use Rattle.step_structures.specs.declared.fault.TextFault.{TextFault}
 use Rattle.step_structures.specs.declared.fault.TextFault.TheVariants as text_faults
 use Rattle.express_syntax.specs.Schemas.{Schema}
+use Rattle.schema_semantics.specs.Names.{Name}
 use Rattle.express_syntax.specs.Texts as schema_texts
 use Rattle.express_syntax.specs.declared.fault.SchemaFault.{SchemaFault}
 use Rattle.express_syntax.specs.declared.fault.SchemaFault.TheVariants as schemas
 use Rattle.schema_semantics.specs.Faults.{IsResolved}
 use Rattle.schema_types.specs.Resolution.{IsNameFault}
-use Rattle.conformance.specs.Choices.{Choice, mergeable}
+use Rattle.conformance.specs.Choices.{Choice, merge_options}
 use Rattle.conformance.specs.Populations.{Instance}
 use Rattle.step_headings.specs.steps.Views.{AreHeadingsOf}
 use Rattle.step_headings.specs.declared.headings.Headings.{Headings}
@@ -31,9 +32,9 @@ use Rattle.verifying.specs.steps.ComputedPassing.{AnswersTyped, IsAnswer, IsJudg
 use Rattle.verifying.proofs.Accepting.{proves}
 
 -- nothing is wrong with the output's instances one by one
-output_is : (s : Schema) (output header_bytes : List ℕ) (g : File) (js : List Instance) → texts.ReadsAs output header_bytes g
-    → IsTyped s g js → IsOutput s output g
-output_is s output header_bytes g js reads typed = record {
+output_is : (s : Schema) (others : List Name) (output header_bytes : List ℕ) (g : File) (js : List Instance)
+    → texts.ReadsAs output header_bytes g → IsTyped s others g js → IsOutput s others output g
+output_is s others output header_bytes g js reads typed = record {
   header_bytes = header_bytes;
   reads = reads;
   nothing = λ said. (typed.1 said.domain said.entities said.is_domain said.are_entities).0;
@@ -65,24 +66,24 @@ module _ (schema input output certificate : List ℕ) (choice : Choice) where
       unread_input (text_faults.Fault kind place) h = (s, settles, h)
       unread_input text_faults.Memory h = tt
 
-      module _ (f : File) (reads : IsConformingInput s input f) where
+      module _ (f : File) (reads : IsConformingInput s choice.other_names input f) where
         pub unread_output : (e : TextFault) → texts.IsFaultOf output e
             → Verifies schema input output certificate choice (Err (of_file (text_fault roles.Output e)))
         unread_output (text_faults.Fault kind place) h = (s, settles, (f, reads, h))
         unread_output text_faults.Memory h = tt
 
-        module _ (j : Result Judged TablesFault) (judged : IsJudgement s (mergeable s choice) f certificate j)
+        module _ (j : Result Judged TablesFault) (judged : IsJudgement s (merge_options s choice) f certificate j)
             (header_bytes : List ℕ) (g : File) (out : texts.ReadsAs output header_bytes g) (js : List Instance)
-            (typed : IsTyped s g js) (hs : Headings) (has : AreHeadingsOf hs f) where
+            (typed : IsTyped s choice.other_names g js) (hs : Headings) (has : AreHeadingsOf hs f) where
           answered : (r : Result Proof TablesFault) → AnswersTyped s hs j g js r
-              → IsAnswer s (mergeable s choice) f certificate g r
-          answered r h = h (mergeable s choice) certificate f has judged
+              → IsAnswer s (merge_options s choice) f certificate g r
+          answered r h = h (merge_options s choice) certificate f has judged
               (λ said. (typed.1 said.domain said.entities said.is_domain said.are_entities).1)
 
           pub refused : (e : TablesFault) → AnswersTyped s hs j g js (Err e)
               → Verifies schema input output certificate choice (Err (tables_fault e))
           refused (tables.Refused refusal) h =
-              (s, settles, (f, reads, (g, output_is s output header_bytes g js out typed, answered (Err (tables.Refused refusal)) h)))
+              (s, settles, (f, reads, (g, output_is s choice.other_names output header_bytes g js out typed, answered (Err (tables.Refused refusal)) h)))
           refused tables.Memory h = tt
 
           pub proved : ChecksProve → (p : Proof) → AnswersTyped s hs j g js (Ok p)
@@ -90,7 +91,7 @@ module _ (schema input output certificate : List ℕ) (choice : Choice) where
           proved law p h = let a = answered (Ok p) h in (
             s,
             settles,
-            proves s (mergeable s choice) input output certificate f g reads
-                (output_is s output header_bytes g js out typed) a.both a.image a.are_rows a.merged law p a.instances
+            proves s (merge_options s choice) input output certificate f g reads
+                (output_is s choice.other_names output header_bytes g js out typed) a.both a.image a.are_rows a.merged law p a.instances
                 a.kept a.rounds,
           )

@@ -7,7 +7,7 @@ use Rattle.value_equality.specs.Rows.{Row, IsPopulation, SamePopulation}
 use Rattle.value_equality.specs.Tables.{Table, shares}
 use Rattle.value_equality.specs.TableViews.{table_of}
 use Rattle.express_syntax.specs.Schemas.{Schema}
-use Rattle.conformance.specs.Choices.{Mergeable}
+use Rattle.conformance.specs.Choices.{MergeOptions}
 use Rattle.conformance.specs.PlainRows.{AreRowsOf}
 use Rattle.conformance.specs.Populations.{Instance}
 use Rattle.conformance.specs.SchemaMeanings.{Said, instances}
@@ -21,12 +21,12 @@ use Rattle.verifying.specs.Verifying.{AreRows, BothHold, IsMergedOutput}
 use Rattle.verifying.specs.steps.ComputedPassing.{IsAnswer, IsJudgement}
 
 -- what was found of the tables is told
-pub held_back : (s : Schema) (chosen : Mergeable) (f g : File) (certificate : List ℕ) (e : TablesFault)
+pub held_back : (s : Schema) (chosen : MergeOptions) (f g : File) (certificate : List ℕ) (e : TablesFault)
     → IsJudgement s chosen f certificate (Err e) → IsAnswer s chosen f certificate g (Err e)
 held_back s chosen f g certificate (Refused refusal) h = h g
 held_back s chosen f g certificate Memory h = tt
 
-module _ (s : Schema) (chosen : Mergeable) (f g : File) (certificate : List ℕ) (j : Judged)
+module _ (s : Schema) (chosen : MergeOptions) (f g : File) (certificate : List ℕ) (j : Judged)
     (judged : IsJudgement s chosen f certificate (Ok j)) (js : List Instance)
     (same : (said : Said s) → js ≡ instances s said g) (image : List Row) (are : AreRowsOf s js image)
     (population : IsPopulation image) where

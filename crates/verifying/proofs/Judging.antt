@@ -7,7 +7,7 @@ use Rattle.value_equality.specs.Tables.{Table, shares, IsValid}
 use Rattle.value_equality.specs.TableViews.{table_of}
 use Rattle.express_syntax.specs.Schemas.{Schema}
 use Rattle.schema_semantics.specs.Names.{OneOf}
-use Rattle.conformance.specs.Choices.{Mergeable}
+use Rattle.conformance.specs.Choices.{MergeOptions}
 use Rattle.conformance.specs.Pins.{StandsBesideItsClass}
 use Rattle.conformance.specs.SchemaMeanings.{Said, instances}
 use Rattle.conformance.proofs.Standing.{either}
@@ -57,7 +57,7 @@ AddBeside s f weak t gentle = (said : Said s) (y : ℕ) → IsTrue (gentle y)
     ↔ (IsTrue (weak y)
     ⊎ OneOf (StandsBesideItsClass s said.domain said.entities (shares t t.rounds) y) (instances s said f))
 
-module _ (s : Schema) (chosen : Mergeable) (f : File) (certificate : List ℕ) where
+module _ (s : Schema) (chosen : MergeOptions) (f : File) (certificate : List ℕ) where
   -- the text is no certificate
   pub unread : (e : CertFault) → texts.IsCertificateFaultOf certificate e
       → IsJudgement s chosen f certificate (Err (certificate_fault e))

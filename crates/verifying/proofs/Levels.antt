@@ -8,7 +8,7 @@ use Rattle.value_equality.specs.Images.{quotient}
 use Rattle.value_equality.specs.Tables.{Table, shares, IsValid}
 use Rattle.express_syntax.specs.Schemas.{Schema}
 use Rattle.express_syntax.specs.declared.fault.SchemaFault.{SchemaFault}
-use Rattle.conformance.specs.Choices.{Choice, mergeable, Mergeable}
+use Rattle.conformance.specs.Choices.{Choice, merge_options, MergeOptions}
 use Rattle.conformance.specs.Findings.{findings}
 use Rattle.conformance.specs.PlainRows.{AreRowsOf}
 use Rattle.conformance.specs.Pins.{IsWeaklyPinned, IsGentlyPinned}
@@ -26,7 +26,7 @@ use Rattle.verifying.specs.declared.proof.Proof.{Proof}
 use Rattle.verifying.specs.Verifying.{Settles, IsSchemaFault, IsConformingInput, IsOutput, Lacks}
 
 -- The certificate of an output, by some functions that say what the schema says: each refusal, or a proof.
-module _ (s : Schema) (said : Said s) (chosen : Mergeable) (f g : File) (r : Result Proof Fault) where
+module _ (s : Schema) (said : Said s) (chosen : MergeOptions) (f g : File) (r : Result Proof Fault) where
   abbrev pub IsRefusedBy : Refusal → Type 0
   IsRefusedBy refusal = r ≡ Err (faults.Certificate refusal)
 
@@ -79,14 +79,14 @@ module _ (schema input output certificate : List ℕ) (choice : Choice) (r : Res
   module _ (s : Schema) where
     -- the certificate
     abbrev pub AtCertificate : File → File → Type 0
-    AtCertificate f g = (said : Said s) → AtText s said (mergeable s choice) f g r certificate
+    AtCertificate f g = (said : Said s) → AtText s said (merge_options s choice) f g r certificate
 
     -- what is found of the output
     abbrev pub AtOutputFound : File → File → Type 0
     AtOutputFound f g =
         ((fs : _) × (gs : _) × (r ≡ Err (faults.Refused roles.Output fs gs))
-        × ((said : Said s) → fs.items ≡ findings s said.domain said.entities g) × (fs.items ≢ []) × (gs.items ≡ []))
-        ⊎ (IsOutput s output g × AtCertificate f g)
+        × ((said : Said s) → fs.items ≡ findings s said.domain said.entities choice.other_names g) × (fs.items ≢ []) × (gs.items ≡ []))
+        ⊎ (IsOutput s choice.other_names output g × AtCertificate f g)
 
     -- the text of the output
     abbrev pub AtOutput : File → Type 0
@@ -99,8 +99,8 @@ module _ (schema input output certificate : List ℕ) (choice : Choice) (r : Res
     abbrev pub AtInputFound : File → Type 0
     AtInputFound f =
         ((fs : _) × (gs : _) × (r ≡ Err (faults.Refused roles.File fs gs))
-        × (unknown : ℕ) × AreFindings s f fs.items gs.items unknown × ((fs.items ≡ []) × (gs.items ≡ []) → ⊥))
-        ⊎ (IsConformingInput s input f × AtOutput f)
+        × (unknown : ℕ) × AreFindings s choice.other_names f fs.items gs.items unknown × ((fs.items ≡ []) × (gs.items ≡ []) → ⊥))
+        ⊎ (IsConformingInput s choice.other_names input f × AtOutput f)
 
     -- the text of the input
     abbrev pub AtInput : Type 0

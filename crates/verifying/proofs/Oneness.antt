@@ -13,7 +13,7 @@ use Rattle.express_syntax.proofs.FirstFault.{reads_no_fault, one_fault}
 use Rattle.schema_semantics.specs.Faults.{IsResolved}
 use Rattle.schema_semantics.proofs.Faults.{faults-are-one}
 use Rattle.schema_types.specs.Resolution.{IsNameFault}
-use Rattle.conformance.specs.Choices.{Choice, mergeable, unknown_choice}
+use Rattle.conformance.specs.Choices.{Choice, merge_options, unknown_choice}
 use Rattle.conformance.specs.SchemaMeanings.{Said, instances}
 use Rattle.merge_choices.specs.ChosenEntities.{IsChoiceFault}
 use Rattle.file_findings.specs.Findings.{AreBehind, ConformsWhereNothingIsFound}
@@ -82,7 +82,7 @@ module _ (schema input output certificate : List ℕ) (choice : Choice) (r q : R
     at_output_found f g said (inl a) (inr b) = absurd (a.4 (a.3 said ∙ b.0.nothing said))
     at_output_found f g said (inr a) (inl b) = absurd (b.4 (b.3 said ∙ a.0.nothing said))
     at_output_found f g said (inr a) (inr b) =
-        at_text s said (mergeable s choice) f g r q certificate (a.1 said) (b.1 said)
+        at_text s said (merge_options s choice) f g r q certificate (a.1 said) (b.1 said)
 
     at_output : (f : File) → Said s → AtOutput schema input output certificate choice r s f
         → AtOutput schema input output certificate choice q s f → ProofsSayTheSame r q
@@ -112,10 +112,10 @@ module _ (schema input output certificate : List ℕ) (choice : Choice) (r q : R
         )
     at_input_found f (inl a) (inr b) =
         let said = b.0.some in
-        absurd (a.5 ((law s said f a.0.items a.1.items a.3 a.4).1 (b.0.conforms said)))
+        absurd (a.5 ((law s said choice.other_names f a.0.items a.1.items a.3 a.4).1 (b.0.conforms said)))
     at_input_found f (inr a) (inl b) =
         let said = a.0.some in
-        absurd (b.5 ((law s said f b.0.items b.1.items b.3 b.4).1 (a.0.conforms said)))
+        absurd (b.5 ((law s said choice.other_names f b.0.items b.1.items b.3 b.4).1 (a.0.conforms said)))
     at_input_found f (inr a) (inr b) = at_output f a.0.some a.1 b.1
 
     at_input : AtInput schema input output certificate choice r s → AtInput schema input output certificate choice q s

@@ -6,7 +6,7 @@ use Rattle.step_structures.proofs.Once.{reads_once}
 use Rattle.value_equality.specs.Rows.{Row}
 use Rattle.value_equality.specs.Tables.{Table}
 use Rattle.express_syntax.specs.Schemas.{Schema}
-use Rattle.conformance.specs.Choices.{Choice, mergeable, Mergeable}
+use Rattle.conformance.specs.Choices.{Choice, merge_options, MergeOptions}
 use Rattle.conformance.specs.Findings.{findings}
 use Rattle.conformance.specs.Pins.{IsGentlyPinned}
 use Rattle.conformance.specs.SchemaMeanings.{Said, instances, FileConforms}
@@ -20,7 +20,7 @@ use Rattle.verifying.specs.declared.proof.Proof.{Proof}
 use Rattle.verifying.specs.Verifying.{Settles, IsConformingInput, IsOutput, AreRows, BothHold, IsMergedOutput, TablesLack, IsRefused, IsAccepted, Proves, Verifies}
 use Rattle.verifying.proofs.Levels.{AtTables, AtText, AtSchema}
 
-module _ (s : Schema) (chosen : Mergeable) (f g : File) (certificate : List ℕ) (r : Result Proof Fault) where
+module _ (s : Schema) (chosen : MergeOptions) (f g : File) (certificate : List ℕ) (r : Result Proof Fault) where
   lacking : (refusal : Refusal) → r ≡ Err (faults.Certificate refusal) → TablesLack s chosen f certificate refusal
       → (said : Said s) → AtTables s said chosen f g r certificate
   lacking refusal e (inl (j, lacks)) said = (
@@ -71,7 +71,7 @@ module _ (s : Schema) (chosen : Mergeable) (f g : File) (certificate : List ℕ)
   refused NotTheImage e h said = inr (inr (no_image e h.0 h.1 h.2 h.3 said))
 
 -- by the functions of one proof
-accepted : (s : Schema) (said : Said s) (chosen : Mergeable) (input output certificate : List ℕ)
+accepted : (s : Schema) (said : Said s) (chosen : MergeOptions) (input output certificate : List ℕ)
     (r : Result Proof Fault) (p : Proof) → r ≡ Ok p → (first second : Table)
     → IsCertificate certificate first second → (a : IsAccepted s said chosen input output first second p)
     → AtText s said chosen a.checked.input.file a.checked.file r certificate
@@ -110,7 +110,7 @@ accepted s said chosen input output certificate r p e first second text a =
       ),
     ))
 
-module _ (s : Schema) (chosen : Mergeable) (input output certificate : List ℕ) (p : Proof)
+module _ (s : Schema) (chosen : MergeOptions) (input output certificate : List ℕ) (p : Proof)
     (proves : Proves s chosen input output certificate p) where
   abbrev by : (said : Said s) → IsAccepted s said chosen input output proves.first proves.second p
   by said = proves.accepted said
@@ -133,19 +133,19 @@ module _ (s : Schema) (chosen : Mergeable) (input output certificate : List ℕ)
       let j = (by proves.some).checked in
       (reads_once output i.header_bytes j.header_bytes i.file j.file i.reads j.reads).1
 
-  input_is : IsConformingInput s input f
+  input_is : IsConformingInput s chosen.other_names input f
   input_is = record {
     header_bytes = (by proves.some).checked.input.header_bytes;
     reads = (by proves.some).checked.input.reads;
     some = proves.some;
-    conforms = λ said. subst (FileConforms s said) (one_input said) (by said).checked.input.conforms;
+    conforms = λ said. subst (FileConforms s said chosen.other_names) (one_input said) (by said).checked.input.conforms;
   }
 
-  output_is : IsOutput s output g
+  output_is : IsOutput s chosen.other_names output g
   output_is = record {
     header_bytes = (by proves.some).checked.header_bytes;
     reads = (by proves.some).checked.reads;
-    nothing = λ said. subst (λ x. findings s said.domain said.entities x ≡ []) (one_output said)
+    nothing = λ said. subst (λ x. findings s said.domain said.entities chosen.other_names x ≡ []) (one_output said)
         (by said).checked.nothing;
   }
 
@@ -157,10 +157,10 @@ module _ (s : Schema) (chosen : Mergeable) (input output certificate : List ℕ)
 
 module _ (schema input output certificate : List ℕ) (choice : Choice) where
   with_proof : (p : Proof) (s : Schema) → Settles schema choice s
-      → Proves s (mergeable s choice) input output certificate p
+      → Proves s (merge_options s choice) input output certificate p
       → AtSchema schema input output certificate choice (Ok p)
   with_proof p s settles proves =
-      let chosen = mergeable s choice in
+      let chosen = merge_options s choice in
       let i = input_is s chosen input output certificate p proves in
       let o = output_is s chosen input output certificate p proves in
       inr (
@@ -219,7 +219,7 @@ module _ (schema input output certificate : List ℕ) (choice : Choice) where
               output_is.reads,
               inr (
                 output_is,
-                refused s (mergeable s choice) f g certificate (Err (faults.Certificate refusal)) refusal refl h,
+                refused s (merge_options s choice) f g certificate (Err (faults.Certificate refusal)) refusal refl h,
               ),
             ),
           ),

@@ -5,7 +5,7 @@ use Rattle.step_structures.specs.Trees.{File}
 use Rattle.value_equality.specs.Rows.{Row}
 use Rattle.value_equality.specs.Tables.{Table, IsValid}
 use Rattle.express_syntax.specs.Schemas.{Schema}
-use Rattle.conformance.specs.Choices.{Mergeable}
+use Rattle.conformance.specs.Choices.{MergeOptions}
 use Rattle.conformance.specs.SchemaMeanings.{Said, instances}
 use Rattle.conformance.proofs.RowOneness.{rows_are_one}
 use Rattle.merge_theorems.proofs.Once.{one_test}
@@ -57,7 +57,7 @@ module _ (rows : List Row) (pinned : ℕ → Bool) (t : Table) where
 pub says : (r q x y : Result Proof Fault) → r ≡ x → q ≡ y → ProofsSayTheSame x y → ProofsSayTheSame r q
 says r q x y e d h = subst (λ z. ProofsSayTheSame z q) (sym e) (subst (ProofsSayTheSame x) (sym d) h)
 
-module _ (s : Schema) (said : Said s) (chosen : Mergeable) (f g : File) (r q : Result Proof Fault) where
+module _ (s : Schema) (said : Said s) (chosen : MergeOptions) (f g : File) (r q : Result Proof Fault) where
   refused_once : (a b : Refusal) → r ≡ Err (faults.Certificate a) → q ≡ Err (faults.Certificate b) → a ≡ b → ProofsSayTheSame r q
   refused_once a b e d same = says r q (Err (faults.Certificate a)) (Err (faults.Certificate b)) e d same
 

@@ -7,6 +7,7 @@ use Rattle.value_equality.specs.Rows.{Row, IsPopulation, SamePopulation}
 use Rattle.value_equality.specs.Images.{quotient}
 use Rattle.value_equality.specs.Tables.{Table, shares, HasMembers, IsGrounded, IsStable, IsValid}
 use Rattle.express_syntax.specs.Schemas.{Schema}
+use Rattle.schema_semantics.specs.Names.{Name}
 use Rattle.express_syntax.specs.Texts as schema_texts
 use Rattle.express_syntax.specs.declared.fault.SchemaFault.{SchemaFault}
 use Rattle.express_syntax.specs.declared.fault.SchemaFault.TheVariants as schemas
@@ -14,7 +15,7 @@ use Rattle.schema_semantics.specs.Faults.{IsResolved}
 use Rattle.schema_types.specs.Resolution.{IsNameFault}
 use Rattle.schema_constraints.specs.declared.finding.RuleFinding.{RuleFinding}
 use Rattle.conformance.specs.declared.finding.Finding.{Finding}
-use Rattle.conformance.specs.Choices.{Choice, mergeable, unknown_choice, Mergeable}
+use Rattle.conformance.specs.Choices.{Choice, merge_options, unknown_choice, MergeOptions}
 use Rattle.conformance.specs.Findings.{findings}
 use Rattle.conformance.specs.PlainRows.{AreRowsOf}
 use Rattle.conformance.specs.Pins.{IsWeaklyPinned, IsGentlyPinned}
@@ -47,26 +48,27 @@ IsSchemaFault text choice (schemas.Name kind name) = (s : Schema) × schema_text
 IsSchemaFault text choice schemas.Memory = ⊥
 
 module _ (s : Schema) where
-  -- The text reads as this structure, which conforms to the schema under every meaning of it; and the schema has
-  -- one.
-  pub record IsConformingInput (text : List ℕ) (f : File) : Type 0 where
+  -- The text reads as this structure, which may call the schema by these other names and conforms to it under every
+  -- meaning of it; and the schema has one.
+  pub record IsConformingInput (others : List Name) (text : List ℕ) (f : File) : Type 0 where
     pub header_bytes : List ℕ
     pub reads : ReadsAs text header_bytes f
     pub some : Said s
-    pub conforms : (said : Said s) → FileConforms s said f
+    pub conforms : (said : Said s) → FileConforms s said others f
 
-  -- The text reads as this structure, whose header and instances, one by one, have no findings.
-  pub record IsOutput (text : List ℕ) (g : File) : Type 0 where
+  -- The text reads as this structure, which may call the schema by these other names, and whose header and instances,
+  -- one by one, have no findings.
+  pub record IsOutput (others : List Name) (text : List ℕ) (g : File) : Type 0 where
     pub header_bytes : List ℕ
     pub reads : ReadsAs text header_bytes g
-    pub nothing : (said : Said s) → findings s said.domain said.entities g ≡ []
+    pub nothing : (said : Said s) → findings s said.domain said.entities others g ≡ []
 
   -- these are the rows of a structure's instances
   pub record AreRows (f : File) (rows : List Row) : Type 0 where
     pub are : (said : Said s) → AreRowsOf s (instances s said f) rows
     pub population : IsPopulation rows
 
-  module _ (chosen : Mergeable) (f : File) where
+  module _ (chosen : MergeOptions) (f : File) where
     -- `pinned` holds exactly of the weakly pinned instances, if instances of the chosen entity data types may be
     -- merged.
     abbrev pub AreWeak : (ℕ → Bool) → Type 0
@@ -110,7 +112,7 @@ Lacks rows pinned t Unstable =
     HasMembers rows t × IsGrounded rows pinned (shares t) t.rounds × (IsStable rows pinned (shares t t.rounds) → ⊥)
 Lacks rows pinned t refusal = ⊥
 
-module _ (s : Schema) (chosen : Mergeable) (f : File) where
+module _ (s : Schema) (chosen : MergeOptions) (f : File) where
   -- the first table lacks this condition, or the first table holds and the second one lacks it
   abbrev pub TablesLack : List ℕ → Refusal → Type 0
   TablesLack certificate refusal =
@@ -135,7 +137,7 @@ module _ (s : Schema) (chosen : Mergeable) (f : File) where
 
 -- By these tables the output is proved to conform, to be an image of the input, and to be a least one. The proof
 -- states the numbers of rows of input and output, and the last round of the second table.
-pub record IsAccepted (s : Schema) (said : Said s) (chosen : Mergeable) (input output : List ℕ) (first second : Table)
+pub record IsAccepted (s : Schema) (said : Said s) (chosen : MergeOptions) (input output : List ℕ) (first second : Table)
     (p : Proof) : Type 0 where
   pub checked : IsCheckedOutput s said chosen input output
   pub first_is : checked.first ≡ first
@@ -147,7 +149,7 @@ pub record IsAccepted (s : Schema) (said : Said s) (chosen : Mergeable) (input o
   pub rounds : p.rounds ≡ second.rounds
 
 -- The certificate is accepted under every meaning of the schema, and the schema has one.
-pub record Proves (s : Schema) (chosen : Mergeable) (input output certificate : List ℕ) (p : Proof) : Type 0 where
+pub record Proves (s : Schema) (chosen : MergeOptions) (input output certificate : List ℕ) (p : Proof) : Type 0 where
   pub first : Table
   pub second : Table
   pub certificate_is : IsCertificate certificate first second
@@ -161,34 +163,34 @@ module _ (schema input output certificate : List ℕ) (choice : Choice) where
 
   -- The input has no fault and no findings either, and `P` holds.
   abbrev pub UpToInput : (Schema → File → Type 0) → Type 0
-  UpToInput P = UpToChoice (λ s. (f : File) × IsConformingInput s input f × P s f)
+  UpToInput P = UpToChoice (λ s. (f : File) × IsConformingInput s choice.other_names input f × P s f)
 
   -- The output has no fault either, its header and instances, one by one, have no findings, and `P` holds.
   abbrev pub UpToOutput : (Schema → File → File → Type 0) → Type 0
-  UpToOutput P = UpToInput (λ s f. (g : File) × IsOutput s output g × P s f g)
+  UpToOutput P = UpToInput (λ s f. (g : File) × IsOutput s choice.other_names output g × P s f g)
 
   -- The findings of the input, rules included, or of the output's header and instances, one by one. There is at
   -- least one.
   abbrev pub AreOfInput : List Finding → List RuleFinding → Type 0
   AreOfInput fs gs =
       UpToChoice (λ s. (header_bytes : List ℕ) × (f : File) × ReadsAs input header_bytes f
-      × (unknown : ℕ) × AreFindings s f fs gs unknown × ((fs ≡ []) × (gs ≡ []) → ⊥))
+      × (unknown : ℕ) × AreFindings s choice.other_names f fs gs unknown × ((fs ≡ []) × (gs ≡ []) → ⊥))
 
   abbrev pub AreOfOutput : List Finding → List RuleFinding → Type 0
   AreOfOutput fs gs =
       UpToInput (λ s f. (header_bytes : List ℕ) × (g : File) × ReadsAs output header_bytes g
-      × ((said : Said s) → fs ≡ findings s said.domain said.entities g) × (fs ≢ []) × (gs ≡ []))
+      × ((said : Said s) → fs ≡ findings s said.domain said.entities choice.other_names g) × (fs ≢ []) × (gs ≡ []))
 
   -- What `verify` returns. Each refusal requires that nothing before it is refused. Out of memory may be returned
   -- at any time, and no other fault is returned.
   abbrev pub Verifies : Result Proof Fault → Type 0
-  Verifies (Ok p) = UpToChoice (λ s. Proves s (mergeable s choice) input output certificate p)
+  Verifies (Ok p) = UpToChoice (λ s. Proves s (merge_options s choice) input output certificate p)
   Verifies (Err (faults.Schema fault)) = IsSchemaFault schema choice fault
   Verifies (Err (faults.Text roles.File kind place)) = UpToChoice (λ s. IsFirstFault input kind place)
   Verifies (Err (faults.Refused roles.File fs gs)) = AreOfInput fs.items gs.items
   Verifies (Err (faults.Text roles.Output kind place)) = UpToInput (λ s f. IsFirstFault output kind place)
   Verifies (Err (faults.Refused roles.Output fs gs)) = AreOfOutput fs.items gs.items
   Verifies (Err (faults.Certificate refusal)) =
-      UpToOutput (λ s f g. IsRefused s (mergeable s choice) f g certificate refusal)
+      UpToOutput (λ s f g. IsRefused s (merge_options s choice) f g certificate refusal)
   Verifies (Err faults.Memory) = Unit {0}
   Verifies (Err fault) = ⊥

@@ -1,6 +1,7 @@
 //! The input, which must have no findings.
 
 ghost use Rattle.std.specs.Prelude.{IfOk};
+ghost use Rattle.conformance.specs.OtherNames.{other_names};
 ghost use Rattle.schema_names.specs.Schemas.{the_schema};
 ghost use Rattle.schema_resolution.specs.SoundGraphs.{IsSound};
 ghost use Rattle.step_exchange.specs.Exchanges.{structure};
@@ -23,10 +24,9 @@ use files::fault::{FileFault, Role};
 use merge_choices::choice::Chosen;
 use population_forms::tables::SchemaTables;
 use reports::fault::{Fault, of_file};
+use resources::Resources;
 use rule_outcomes::report::RuleReport;
 use schema_resolution::resolved_schema::ResolvedSchema;
-use std::alloc::Global;
-use std::hash::RandomState;
 use step_exchange::exchange::read_exchange;
 use step_exchange::structure::Exchange;
 use step_headings::headings::Headings;
@@ -41,8 +41,7 @@ pub(crate) struct Claim<'o> {
 /// Checks an input that reads as this structure, and judges the tables of the certificate by it.
 /// Everything else that this needed is freed.
 fn judge_input<'r, 't, 's: 'a, 'a: 'r>(
-    alloc: Global,
-    keys: RandomState,
+    resources: Resources,
     graph: &'r ResolvedSchema<'s, 't>,
     tables: &'r SchemaTables,
     chosen: &Chosen,
@@ -51,15 +50,16 @@ fn judge_input<'r, 't, 's: 'a, 'a: 'r>(
 ) -> Result<Result<Judged<'a>, TablesFault>, Fault<'s>>
     requires sound { IsSound graph.now }
     requires tables { AreTables graph.now.types tables.now }
-    ensures finds { Finds (the_schema graph.entry.now.types.names) certificate.items result
+    ensures finds { Finds (the_schema graph.entry.now.types.names)
+        (other_names graph.entry.now.types.names.schema.now) certificate.items result
         chosen.now (structure exchange.entry.now) }
     ensures ready { IfOk result (λ judged. IfOk judged IsReady) }
 {
     conforms_where_nothing_is_found();
-    let checked = conforming(alloc, keys, graph, tables, chosen, exchange)?;
+    let checked = conforming(resources, graph, tables, chosen, exchange)?;
     match checked {
         Checked::Clean { weak, rows, .. } => {
-            Ok(judge_certificate(alloc, keys, rows, weak, certificate))
+            Ok(judge_certificate(resources, rows, weak, certificate))
         }
         Checked::Faulty(found) => {
             let Found { findings, rules } = found;
@@ -79,8 +79,7 @@ fn judge_input<'r, 't, 's: 'a, 'a: 'r>(
 /// Verifies an output if the input reads as this structure. The structure, except its headings, is
 /// freed before the output is read.
 fn verify_read<'r, 't, 's: 'a, 'a>(
-    alloc: Global,
-    keys: RandomState,
+    resources: Resources,
     graph: &'r ResolvedSchema<'s, 't>,
     tables: &'r SchemaTables,
     chosen: &Chosen,
@@ -90,6 +89,7 @@ fn verify_read<'r, 't, 's: 'a, 'a>(
     requires sound { IsSound graph.now }
     requires tables { AreTables graph.now.types tables.now }
     ensures { AnswersRead (the_schema graph.entry.now.types.names)
+        (other_names graph.entry.now.types.names.schema.now)
         claim.entry.output.now claim.entry.certificate.items result chosen.now
         (structure exchange.entry) }
 {
@@ -97,45 +97,29 @@ fn verify_read<'r, 't, 's: 'a, 'a>(
         output,
         certificate,
     } = claim;
-    let judged = judge_input(
-        alloc,
-        keys,
-        &*graph,
-        &*tables,
-        chosen,
-        &exchange,
-        certificate,
-    )?;
+    let judged = judge_input(resources, &*graph, &*tables, chosen, &exchange, certificate)?;
     let headings = Headings::of(exchange);
-    verify_output(
-        alloc,
-        keys,
-        &graph.types,
-        tables,
-        &headings,
-        &judged,
-        output,
-    )
+    verify_output(resources, &graph.types, tables, &headings, &judged, output)
 }
 
 /// Verifies an output by its certificate, according to a resolved schema and its chosen entity data
 /// types.
 pub(crate) fn verify_input<'s>(
-    alloc: Global,
-    keys: RandomState,
+    resources: Resources,
     graph: &ResolvedSchema<'s, '_>,
     chosen: &Chosen,
     input: &[u8],
     claim: Claim<'_>,
 ) -> Result<Proof, Fault<'s>>
     requires sound { IsSound graph.now }
-    ensures { AnswersSettled (the_schema graph.now.types.names) claim.entry.output.now
+    ensures { AnswersSettled (the_schema graph.now.types.names)
+        (other_names graph.now.types.names.schema.now) claim.entry.output.now
         claim.entry.certificate.items result chosen.now input.now }
 {
-    let exchange = match read_exchange(alloc, keys, input) {
+    let exchange = match read_exchange(resources.alloc, resources.keys, input) {
         Ok(exchange) => exchange,
         Err(fault) => return Err(of_file(FileFault::of_text(Role::File, fault))),
     };
-    let tables = SchemaTables::of(alloc, &graph.types)?;
-    verify_read(alloc, keys, graph, &tables, chosen, exchange, claim)
+    let tables = SchemaTables::of(resources.alloc, &graph.types)?;
+    verify_read(resources, graph, &tables, chosen, exchange, claim)
 }

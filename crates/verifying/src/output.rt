@@ -1,6 +1,7 @@
 //! Comparing an output with the merged input.
 
 ghost use Rattle.std.specs.Prelude.{◌↔◌, IfOk, IsTrue, Ok};
+ghost use Rattle.conformance.specs.OtherNames.{other_names};
 ghost use Rattle.schema_names.specs.Schemas.{the_schema};
 ghost use Rattle.schema_types.specs.TypeTables.{IsMade};
 ghost use Rattle.step_exchange.specs.Exchanges.{structure};
@@ -29,9 +30,9 @@ use population_forms::tables::SchemaTables;
 use population_reader::populate::{Verdict, populate_by};
 use reports::fault::{Fault, of_file};
 use reports::refusal::Refusal;
+use resources::Resources;
 use schema_types::types::ResolvedTypes;
 use std::alloc::{AllocError, Global};
-use std::hash::RandomState;
 use step_exchange::exchange::read_exchange;
 use step_exchange::structure::Exchange;
 use step_headings::headings::Headings;
@@ -106,8 +107,7 @@ fn answer<'s: 'a, 't, 'r, 'a, 'b, 'q>(
 
 /// Verifies an output that reads as this structure.
 fn verify_image<'s: 'a, 't, 'r, 'a, 'b, 'q>(
-    alloc: Global,
-    keys: RandomState,
+    resources: Resources,
     types: &'r ResolvedTypes<'s, 't>,
     tables: &SchemaTables,
     image: &'r Exchange<'a>,
@@ -117,20 +117,21 @@ fn verify_image<'s: 'a, 't, 'r, 'a, 'b, 'q>(
     requires made { IsMade types.now }
     requires tables { AreTables types.now tables.now }
     requires ready { IfOk judged.now IsReady }
-    ensures { AnswersOutput (the_schema types.entry.now.names) headings.now
+    ensures { AnswersOutput (the_schema types.entry.now.names)
+        (other_names types.entry.now.names.schema.now) headings.now
         judged.now result (structure image.entry.now) }
 {
     checks_prove();
-    let verdict = populate_by(alloc, keys, types, tables, image)?;
+    let verdict = populate_by(resources.alloc, resources.keys, types, tables, image)?;
     match verdict {
         Verdict::Typed(population) => {
-            let proof = answer(alloc, population, headings, judged)?;
+            let proof = answer(resources.alloc, population, headings, judged)?;
             Ok(proof)
         }
         Verdict::Faulty(findings) => Err(Fault::Refused {
             role: Role::Output,
             findings,
-            rules: Vec::new(alloc),
+            rules: Vec::new(resources.alloc),
         }),
     }
 }
@@ -138,8 +139,7 @@ fn verify_image<'s: 'a, 't, 'r, 'a, 'b, 'q>(
 /// Verifies an output. The input has no findings, its sections have these headings, and the tables
 /// of the certificate are judged so.
 pub(crate) fn verify_output<'s>(
-    alloc: Global,
-    keys: RandomState,
+    resources: Resources,
     types: &ResolvedTypes<'s, '_>,
     tables: &SchemaTables,
     headings: &Headings<'_>,
@@ -149,10 +149,11 @@ pub(crate) fn verify_output<'s>(
     requires made { IsMade types.now }
     requires tables { AreTables types.now tables.now }
     requires ready { IfOk judged.now IsReady }
-    ensures { AnswersClean (the_schema types.now.names) headings.now judged.now result output.now }
+    ensures { AnswersClean (the_schema types.now.names) (other_names types.now.names.schema.now)
+        headings.now judged.now result output.now }
 {
-    match read_exchange(alloc, keys, output) {
-        Ok(image) => verify_image(alloc, keys, types, tables, &image, headings, judged),
+    match read_exchange(resources.alloc, resources.keys, output) {
+        Ok(image) => verify_image(resources, types, tables, &image, headings, judged),
         Err(fault) => Err(of_file(FileFault::of_text(Role::Output, fault))),
     }
 }

@@ -22,8 +22,8 @@ use files::fault::{LIMIT, Role};
 use files::read::read_whole;
 use merge_choices::choice::Choice;
 use reports::fault::{Fault, too_large, unread};
+use resources::Resources;
 use std::alloc::Global;
-use std::hash::RandomState;
 
 /// The texts of the three sources.
 #[derive(Drop)]
@@ -90,8 +90,7 @@ fn read_all<'s, F: Source, W: Source, C: Source>(
 
 /// Verifies an output, from its texts.
 fn verify_texts<'s>(
-    alloc: Global,
-    keys: RandomState,
+    resources: Resources,
     schema: &'s [u8],
     choice: &Choice,
     texts: Texts,
@@ -104,13 +103,13 @@ fn verify_texts<'s>(
         smaller,
         certificate,
     } = texts;
-    verify(alloc, keys, schema, &file, &smaller, choice, certificate)
+    verify(resources, schema, &file, &smaller, choice, certificate)
 }
 
 /// Tests whether a certificate proves an output, as [`verify`] does, from the text of a schema and
 /// three sources. The sources are read to their ends in this order: input, output, certificate.
 ///
-/// Names and keys of rules are hashed with `keys`.
+/// Names and keys of rules are hashed with the keys of `resources`.
 ///
 /// # Errors
 /// The first of these:
@@ -121,8 +120,7 @@ fn verify_texts<'s>(
 ///
 /// `Memory` if memory runs out, at any time.
 pub fn verify_files<'s, F: Source, W: Source, C: Source>(
-    alloc: Global,
-    keys: RandomState,
+    resources: Resources,
     schema: &'s [u8],
     choice: &Choice,
     file: &mut F,
@@ -143,8 +141,8 @@ pub fn verify_files<'s, F: Source, W: Source, C: Source>(
     ensures certificate_failed { C.has_failed certificate.old ≡ false
         → C.has_failed certificate.new ≡ is_device roles.Certificate result }
 {
-    match read_all(alloc, schema, file, output, certificate) {
-        Ok(texts) => verify_texts(alloc, keys, schema, choice, texts),
+    match read_all(resources.alloc, schema, file, output, certificate) {
+        Ok(texts) => verify_texts(resources, schema, choice, texts),
         Err(fault) => Err(fault),
     }
 }

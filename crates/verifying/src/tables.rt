@@ -4,7 +4,7 @@ ghost use Rattle.std.specs.Prelude.{◌≡◌, ℕ, IfOk, List, MatchResult};
 ghost use Rattle.std.specs.Bool.{OnTrue};
 ghost use Rattle.certificate_text.specs.Texts.{IsCertificate};
 ghost use Rattle.express_syntax.specs.Schemas.{Schema};
-ghost use Rattle.conformance.specs.Choices.{Mergeable};
+ghost use Rattle.conformance.specs.Choices.{MergeOptions};
 ghost use Rattle.step_structures.specs.Trees.{File};
 ghost use Rattle.value_equality.specs.Standard.{IsWellFormed};
 ghost use Rattle.value_equality.specs.Tables.{IsValid};
@@ -25,9 +25,8 @@ use certificate_checks::judge::judge_by;
 use certificate_text::read::read_certificate;
 use population_pins::pin_names::Pins;
 use population_pins::weak_pins::WeakPins;
+use resources::Resources;
 use row_signatures::signatures::{Signatures, all_signatures};
-use std::alloc::Global;
-use std::hash::RandomState;
 use value_equality::laws::equal_tables_are_the_same;
 use value_equality::plain::Plain;
 use value_equality::table::Table;
@@ -41,8 +40,7 @@ pub(crate) struct Judged<'a> {
 
 /// Tests whether a table is valid under these pins.
 fn judge_under(
-    alloc: Global,
-    keys: RandomState,
+    resources: Resources,
     rows: &Plain<'_>,
     pins: &Pins,
     signatures: &Signatures,
@@ -54,7 +52,14 @@ fn judge_under(
         (λ _. IsValid rows.now (is_pinned pins.now) (table_of table.now))
         (IsTableFault rows.now (is_pinned pins.now) (table_of table.now)) }
 {
-    judge_by(alloc, keys, rows, pins.names(), signatures, table)?;
+    judge_by(
+        resources.alloc,
+        resources.keys,
+        rows,
+        pins.names(),
+        signatures,
+        table,
+    )?;
     Ok(())
 }
 
@@ -71,8 +76,7 @@ fn is_judged(weak: &Pins, gentle: &Pins, first: &Table, second: &Table) -> bool
 /// Tests whether the first table is valid under the weak pins, and the second one under the gentle
 /// pins. Equal tables under equal pins are tested once.
 fn judge_tables(
-    alloc: Global,
-    keys: RandomState,
+    resources: Resources,
     rows: &Plain<'_>,
     weak: &Pins,
     gentle: &Pins,
@@ -87,21 +91,20 @@ fn judge_tables(
         (AreFaulty rows.now (is_pinned weak.now) (is_pinned gentle.now) (table_of first)
         (table_of second.now)) }
 {
-    let signatures = all_signatures(alloc, keys, rows)?;
+    let signatures = all_signatures(resources.alloc, resources.keys, rows)?;
     if is_judged(weak, gentle, &first, second) {
         drop(first);
-        return judge_under(alloc, keys, rows, weak, &signatures, second);
+        return judge_under(resources, rows, weak, &signatures, second);
     }
-    judge_under(alloc, keys, rows, weak, &signatures, &first)?;
+    judge_under(resources, rows, weak, &signatures, &first)?;
     drop(first);
-    judge_under(alloc, keys, rows, gentle, &signatures, second)
+    judge_under(resources, rows, gentle, &signatures, second)
 }
 
 /// Judges the two tables of a certificate: both have to be valid, the second one under the gentle
 /// pins that the first one gives.
 fn judge_pair<'a>(
-    alloc: Global,
-    keys: RandomState,
+    resources: Resources,
     rows: Plain<'a>,
     weak: &WeakPins,
     first: Table,
@@ -109,13 +112,13 @@ fn judge_pair<'a>(
 ) -> Result<Judged<'a>, TablesFault>
     requires first { IsWellFormed (table_of first) }
     requires second { IsWellFormed (table_of second) }
-    ensures judged { (s : Schema) (chosen : Mergeable) (f : File) (certificate : List ℕ)
+    ensures judged { (s : Schema) (chosen : MergeOptions) (f : File) (certificate : List ℕ)
         → IsCertificate certificate (table_of first) (table_of second)
         → AreKnown s chosen f rows.entry weak.now → IsJudgement s chosen f certificate result }
     ensures ready { IfOk result IsReady }
 {
-    let gentle = weak.gentle(alloc, keys, &first)?;
-    judge_tables(alloc, keys, &rows, &weak.pins, &gentle, first, &second)?;
+    let gentle = weak.gentle(resources.alloc, resources.keys, &first)?;
+    judge_tables(resources, &rows, &weak.pins, &gentle, first, &second)?;
     Ok(Judged {
         rows,
         table: second,
@@ -124,17 +127,16 @@ fn judge_pair<'a>(
 
 /// Reads the tables of a certificate and judges them by an input with these rows and weak pins.
 pub(crate) fn judge_certificate<'a>(
-    alloc: Global,
-    keys: RandomState,
+    resources: Resources,
     rows: Plain<'a>,
     weak: WeakPins,
     certificate: Vec<u8>,
 ) -> Result<Judged<'a>, TablesFault>
-    ensures judged { (s : Schema) (chosen : Mergeable) (f : File)
+    ensures judged { (s : Schema) (chosen : MergeOptions) (f : File)
         → AreKnown s chosen f rows.entry weak → IsJudgement s chosen f certificate.items result }
     ensures ready { IfOk result IsReady }
 {
-    let (first, second) = read_certificate(alloc, &certificate, rows.len())?;
+    let (first, second) = read_certificate(resources.alloc, &certificate, rows.len())?;
     drop(certificate);
-    judge_pair(alloc, keys, rows, &weak, first, second)
+    judge_pair(resources, rows, &weak, first, second)
 }

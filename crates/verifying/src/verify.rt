@@ -8,9 +8,8 @@ use crate::proof::Proof;
 use express_reader::read_schema;
 use merge_choices::choice::Choice;
 use reports::fault::{Fault, of_schema};
+use resources::Resources;
 use schema_resolution::resolution::resolve;
-use std::alloc::Global;
-use std::hash::RandomState;
 
 /// Tests whether `certificate` proves that `output` conforms to the schema and is a least image of
 /// `input`. Instances of the chosen entity data types may be merged. Returns the numbers of the
@@ -19,8 +18,8 @@ use std::hash::RandomState;
 ///
 /// The function doesn't test the limits of 2^40 bytes; `verify_files` does. To save memory, it
 /// frees the certificate once its tables are read. Before the output is read, it frees all of the
-/// input's structure except the headings of its sections. Names and keys of rules are hashed with
-/// `keys`.
+/// input's structure except the headings of its sections. Names and keys of rules are hashed with the
+/// keys of `resources`.
 ///
 /// # Errors
 /// The first of these:
@@ -43,8 +42,7 @@ use std::hash::RandomState;
 ///
 /// `Memory` if memory runs out, at any time.
 pub fn verify<'s>(
-    alloc: Global,
-    keys: RandomState,
+    resources: Resources,
     schema: &'s [u8],
     input: &[u8],
     output: &[u8],
@@ -58,17 +56,22 @@ pub fn verify<'s>(
         output,
         certificate,
     };
-    let tree = match read_schema(alloc, schema) {
+    let tree = match read_schema(resources.alloc, schema) {
         Ok(tree) => tree,
         Err(fault) => return Err(of_schema(fault)),
     };
-    let graph = match resolve(alloc, keys, &tree) {
+    let other_names = match choice.copy_other_names() {
+        Ok(names) => names,
+        Err(_) => return Err(Fault::Memory),
+    };
+    let named = tree.with_other_names(other_names);
+    let graph = match resolve(resources.alloc, resources.keys, &named) {
         Ok(graph) => graph,
         Err(fault) => return Err(of_schema(fault)),
     };
-    let chosen = match choice.settle(alloc, &graph.types) {
+    let chosen = match choice.settle(resources.alloc, &graph.types) {
         Ok(chosen) => chosen,
         Err(fault) => return Err(of_schema(fault)),
     };
-    verify_input(alloc, keys, &graph, &chosen, input, claim)
+    verify_input(resources, &graph, &chosen, input, claim)
 }

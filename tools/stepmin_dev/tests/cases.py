@@ -156,15 +156,15 @@ def differences(case, outcome):
 
 
 def paths_and_choice(arguments):
-    """Returns the paths among the arguments of `shrink`, and its options `--merge` and `--in-sets`, if any."""
+    """Returns the paths among the arguments of `shrink`, and its options but `--strict`, if any."""
     paths, choice, rest = [], [], list(arguments)
     while rest:
         argument = rest.pop(0)
         if argument == b"--":
             return paths + rest, choice
-        if argument == b"--merge":
+        if argument in (b"--merge", b"--schema-alias"):
             choice += [argument, rest.pop(0)]
-        elif argument.startswith(b"--merge=") or argument == b"--in-sets":
+        elif argument.startswith((b"--merge=", b"--schema-alias=")) or argument == b"--in-sets":
             choice.append(argument)
         elif argument != b"--strict":
             paths.append(argument)

@@ -91,14 +91,14 @@ SHRINKING = [
     (["geo.exp", "equal.stp", "/dev/full", "out.cert", *MERGE], 4, {"err": "device: output after 0 bytes\n"}),
     (["geo.exp", "self.stp", "self.stp", "/dev/full", *MERGE], 4, {"err": "device: certificate after 0 bytes\n"}),
     (["geo.exp", "self.stp", "self.stp", "bad.cert", *MERGE], 4,
-     {"full_out": True, "err": "device: output after 0 bytes\n"}),
+     {"full_out": True}),
     (["geo.exp", "large.stp", *WRITTEN, "--merge", "POINT"], 5, {"megabytes": 96, "err": "memory\n"}),
 ]
 FOUR = ["geo.exp", "equal.stp", "smaller.stp", "right.cert", *MERGE]
 VERIFYING = [
     (FOUR[:3], 3, {"err": "error: ...\n"}),
     ([*FOUR, "--strict"], 3, {"err": "error: ...\n"}),
-    (FOUR, 4, {"full_out": True, "err": "device: output after 0 bytes\n"}),
+    (FOUR, 4, {"full_out": True}),
     (["geo.exp", "large.stp", "large.stp", "right.cert"], 5, {"megabytes": 96, "err": "memory\n"}),
 ]
 
@@ -116,7 +116,7 @@ RUNS = [
     Run(["--version"], 4, full_out=True),
     Run(["plain", "cut.stp"], 4, full_err=True),
     Run(["shrink"], 4, full_err=True),
-    Run(["check", "geo.exp", "broken.stp"], 4, full_out=True, err="device: output after 0 bytes\n"),
+    Run(["check", "geo.exp", "broken.stp"], 4, full_out=True),
     Run(["plain", "spelt.stp"], 4, closed_out=True, err="device: output after 0 bytes\n"),
     Run(["plain", "large.stp"], 5, megabytes=24, err="memory\n"),
     Run(["plain", "large.stp"], 5, megabytes=96, err="memory\n"),

@@ -1,19 +1,24 @@
--- The arguments of the commands that merge, as they were given.
-use Rattle.std.specs.Prelude.{ℕ, List, Bool, Option, option_map}
-use Rattle.std.specs.Borrow.{Bor}
-use Rattle.command_line.specs.Commands.{Given, flags_of, four}
+-- What the arguments of a request gave.
+use Rattle.std.specs.Prelude.{[], ◌∷◌, Bool}
+use Rattle.command_line.specs.Commands.{Given, four, given_as}
+use Rattle.command_line.specs.steps.Options.{check_options, shrink_options, verify_options}
+use Rattle.command_line.specs.declared.command_words.CheckRequest.{CheckRequest}
 use Rattle.command_line.specs.declared.merge_words.ShrinkRequest.{ShrinkRequest}
 use Rattle.command_line.specs.declared.merge_words.VerifyRequest.{VerifyRequest}
 
--- the text that a reference refers to, if any
-abbrev pub text_of : Option (Bor (List ℕ)) → Option (List ℕ)
-text_of = option_map (λ text. text.now)
-
 -- what the arguments gave
-abbrev pub shrink_given : ShrinkRequest → Given
-shrink_given asked = four asked.schema.now asked.file.now asked.output.now asked.certificate.now (text_of asked.merge)
-    (flags_of asked.in_sets asked.strict)
+abbrev pub check_given : CheckRequest → Given
+check_given asked = given_as (asked.schema.now ∷ asked.file.now ∷ []) (check_options asked)
 
-abbrev pub verify_given : VerifyRequest → Bool → Given
-verify_given asked strict = four asked.schema.now asked.file.now asked.output.now asked.certificate.now
-    (text_of asked.merge) (flags_of asked.in_sets strict)
+abbrev pub shrink_given : ShrinkRequest → Given
+shrink_given asked =
+    four asked.schema.now asked.file.now asked.output.now asked.certificate.now (shrink_options asked)
+
+abbrev pub verify_given : VerifyRequest → Given
+verify_given asked =
+    four asked.schema.now asked.file.now asked.output.now asked.certificate.now (verify_options asked)
+
+-- what the arguments gave, with or without `--strict`
+abbrev pub merging_given : VerifyRequest → Bool → Given
+merging_given asked strict = four asked.schema.now asked.file.now asked.output.now asked.certificate.now
+    (record (verify_options asked) { strict = strict })

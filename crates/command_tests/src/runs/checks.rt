@@ -1,7 +1,7 @@
 //! The report of `check` on a file, or why the file isn't checked.
 
 use super::{FILE, Shelf, add_words, run_in};
-use std::alloc::Global;
+use resources::Resources;
 use std::hash::RandomState;
 use std::test::Fail;
 
@@ -131,20 +131,11 @@ const ROWS: &'static [Row] = &[
 ];
 
 // A row for an output with room for twelve bytes.
-const CUT: &'static [Row] = &[(
-    "S",
-    "F",
-    RULED,
-    "DATA;\n",
-    4,
-    "unchecked WH",
-    "device: output after 12 bytes\n",
-)];
+const CUT: &'static [Row] = &[("S", "F", RULED, "DATA;\n", 4, "unchecked WH", "")];
 
 // Whether a row is right, over its schema and this file.
 fn is_right_over(
-    alloc: Global,
-    keys: RandomState,
+    resources: Resources,
     words: &[String],
     file: &str,
     row: &Row,
@@ -152,43 +143,38 @@ fn is_right_over(
 ) -> bool {
     let (_, _, schema, _, status, out, err) = *row;
     let mut shelf = Shelf {
-        alloc,
+        alloc: resources.alloc,
         schema: schema.as_bytes(),
         file: file.as_bytes(),
         breaks: false,
     };
-    let run = run_in(alloc, keys, words, &mut shelf, out_room, usize::MAX);
+    let run = run_in(resources, words, &mut shelf, out_room, usize::MAX);
     run.comes_to(status, out.as_bytes(), err.as_bytes())
 }
 
-fn is_right_of(alloc: Global, keys: RandomState, file: &str, row: &Row, out_room: usize) -> bool {
+fn is_right_of(resources: Resources, file: &str, row: &Row, out_room: usize) -> bool {
     let (schema_path, file_path, ..) = *row;
-    let mut words = Vec::new(alloc);
+    let mut words = Vec::new(resources.alloc);
     add_words(
-        alloc,
+        resources.alloc,
         &mut words,
         &["stepmin", "check", schema_path, file_path],
-    ) && is_right_over(alloc, keys, &words, file, row, out_room)
+    ) && is_right_over(resources, &words, file, row, out_room)
 }
 
 // Whether a row is right if the output has this room.
-fn is_right(alloc: Global, keys: RandomState, row: &Row, out_room: usize) -> bool {
+fn is_right(resources: Resources, row: &Row, out_room: usize) -> bool {
     let (_, _, _, data, ..) = *row;
-    match FILE.replace(alloc, "DATA;\n", data) {
-        Ok(file) => is_right_of(alloc, keys, file.as_str(), row, out_room),
+    match FILE.replace(resources.alloc, "DATA;\n", data) {
+        Ok(file) => is_right_of(resources, file.as_str(), row, out_room),
         Err(_) => false,
     }
 }
 
 // Returns the number of the first wrong row if the output has this room, if any.
-fn wrong_row(
-    alloc: Global,
-    keys: RandomState,
-    rows: &'static [Row],
-    out_room: usize,
-) -> Option<usize> {
+fn wrong_row(resources: Resources, rows: &'static [Row], out_room: usize) -> Option<usize> {
     for i in 0..rows.len() {
-        if !is_right(alloc, keys, &rows[i], out_room) {
+        if !is_right(resources, &rows[i], out_room) {
             return Some(i);
         }
     }
@@ -197,8 +183,11 @@ fn wrong_row(
 
 #[test]
 fn a_file_is_checked_or_refused(rt: HostRuntime) -> Result<(), Fail> {
-    let keys = RandomState::new(&rt)?;
-    assert_eq!(rt; wrong_row(rt.alloc(), keys, ROWS, usize::MAX), None);
-    assert_eq!(rt; wrong_row(rt.alloc(), keys, CUT, 12), None);
+    let resources = Resources {
+        alloc: rt.alloc(),
+        keys: RandomState::new(&rt)?,
+    };
+    assert_eq!(rt; wrong_row(resources, ROWS, usize::MAX), None);
+    assert_eq!(rt; wrong_row(resources, CUT, 12), None);
     Ok(())
 }

@@ -6,6 +6,7 @@ use commands::command::{refuse, refuse_to_read};
 use devices::counted::Counted;
 use files::fault::{FileFault, Role, print_line};
 use files::read::ReadFault;
+use resources::Resources;
 use std::alloc::Global;
 use std::hash::RandomState;
 use std::io;
@@ -16,11 +17,12 @@ use step_structures::fault::{FaultKind, LeftOut};
 const HELP: &str = "Checks STEP files (ISO 10303-21), and makes them smaller\n\n\
     Usage: stepmin <COMMAND>\n\n\
     Commands:\n  \
-    plain   Writes the normal text of a STEP file\n  \
-    check   Reports where a STEP file breaks its schema\n  \
-    shrink  Writes a smaller file, in which equal instances are one, and its certificate\n  \
-    verify  Checks the certificate CERT of a smaller file OUT\n  \
-    help    Print this message or the help of the given subcommand(s)\n\n\
+    plain    Writes the normal text of a STEP file\n  \
+    check    Reports where a STEP file breaks its schema\n  \
+    shrink   Writes a smaller file, in which equal instances are one, and its certificate\n  \
+    verify   Checks the certificate CERT of a smaller file OUT\n  \
+    presets  Lists the presets of --merge, and what each has\n  \
+    help     Print this message or the help of the given subcommand(s)\n\n\
     Options:\n  \
     -h, --help     Print help\n  \
     -V, --version  Print version\n\n\
@@ -45,12 +47,13 @@ const PLAIN_HELP: &str = "Writes the normal text of a STEP file\n\n\
 
 // What `check --help` prints.
 const CHECK_HELP: &str = "Reports where a STEP file breaks its schema\n\n\
-    Usage: stepmin check <SCHEMA> <FILE>\n\n\
+    Usage: stepmin check [OPTIONS] <SCHEMA> <FILE>\n\n\
     Arguments:\n  \
     <SCHEMA>  The schema that it is checked against\n  \
     <FILE>    The file that is read\n\n\
-    Options:\n  \
-    -h, --help  Print help\n\n\
+    Options:\n      \
+    --schema-alias <NAMES>  Other names by which FILE may call the schema\n  \
+    -h, --help                  Print help\n\n\
     Example:\n  \
     stepmin check ap214.exp part.stp\n";
 
@@ -203,18 +206,18 @@ fn is_right_run(run: &Ending, row: &Row) -> bool {
         && run.err.as_slice() == line.as_bytes()
 }
 
-fn is_right(alloc: Global, keys: RandomState, row: &Row) -> bool {
+fn is_right(resources: Resources, row: &Row) -> bool {
     let (words, file, breaks, out_room, err_room, ..) = *row;
-    match run(alloc, keys, words, file, breaks, out_room, err_room) {
+    match run(resources, words, file, breaks, out_room, err_room) {
         Some(run) => is_right_run(&run, row),
         None => false,
     }
 }
 
 // Returns the number of the first row with another outcome, if any.
-fn wrong_row(alloc: Global, keys: RandomState) -> Option<usize> {
+fn wrong_row(resources: Resources) -> Option<usize> {
     for i in 0..ROWS.len() {
-        if !is_right(alloc, keys, &ROWS[i]) {
+        if !is_right(resources, &ROWS[i]) {
             return Some(i);
         }
     }
@@ -223,8 +226,11 @@ fn wrong_row(alloc: Global, keys: RandomState) -> Option<usize> {
 
 #[test]
 fn a_device_that_fails_is_told(rt: HostRuntime) -> Result<(), Fail> {
-    let keys = RandomState::new(&rt)?;
-    assert_eq!(rt; wrong_row(rt.alloc(), keys), None);
+    let resources = Resources {
+        alloc: rt.alloc(),
+        keys: RandomState::new(&rt)?,
+    };
+    assert_eq!(rt; wrong_row(resources), None);
     Ok(())
 }
 
@@ -312,9 +318,9 @@ fn is_said_by(run: &Ending, status: u8, text: &str) -> bool {
         && (status != 0 || said.len() == text.len())
 }
 
-fn is_said(alloc: Global, keys: RandomState, row: &Asked) -> bool {
+fn is_said(resources: Resources, row: &Asked) -> bool {
     let (words, status, text) = *row;
-    match run(alloc, keys, words, "", false, ALL, ALL) {
+    match run(resources, words, "", false, ALL, ALL) {
         Some(run) => is_said_by(&run, status, text),
         None => false,
     }
@@ -327,18 +333,18 @@ fn is_cut_by(run: &Ending, status: u8) -> bool {
 }
 
 // Whether the text is cut to three bytes if there is room for three.
-fn is_cut(alloc: Global, keys: RandomState, row: &Asked) -> bool {
+fn is_cut(resources: Resources, row: &Asked) -> bool {
     let (words, status, _) = *row;
-    match run(alloc, keys, words, "", false, 3, 3) {
+    match run(resources, words, "", false, 3, 3) {
         Some(run) => is_cut_by(&run, status),
         None => false,
     }
 }
 
 // Returns the number of the first row with another outcome, if any.
-fn wrong_answer(alloc: Global, keys: RandomState) -> Option<usize> {
+fn wrong_answer(resources: Resources) -> Option<usize> {
     for i in 0..ASKED.len() {
-        if !is_said(alloc, keys, &ASKED[i]) || !is_cut(alloc, keys, &ASKED[i]) {
+        if !is_said(resources, &ASKED[i]) || !is_cut(resources, &ASKED[i]) {
             return Some(i);
         }
     }
@@ -347,8 +353,11 @@ fn wrong_answer(alloc: Global, keys: RandomState) -> Option<usize> {
 
 #[test]
 fn words_that_ask_for_no_file_are_answered(rt: HostRuntime) -> Result<(), Fail> {
-    let keys = RandomState::new(&rt)?;
-    assert_eq!(rt; wrong_answer(rt.alloc(), keys), None);
+    let resources = Resources {
+        alloc: rt.alloc(),
+        keys: RandomState::new(&rt)?,
+    };
+    assert_eq!(rt; wrong_answer(resources), None);
     Ok(())
 }
 

@@ -4,6 +4,7 @@ use super::{FILE, add_words, run_in};
 use devices::device::Sink;
 use file_store::folder::Folder;
 use files::store::Store;
+use resources::Resources;
 use std::alloc::Global;
 use std::fs;
 use std::fs::File;
@@ -62,7 +63,13 @@ fn is_normal_there<'x, R: Files<File = File>>(
     text: &str,
 ) -> bool {
     let mut folder = Folder::new(alloc, rt);
-    let run = run_in(alloc, keys, words, &mut folder, usize::MAX, usize::MAX);
+    let run = run_in(
+        Resources { alloc, keys },
+        words,
+        &mut folder,
+        usize::MAX,
+        usize::MAX,
+    );
     run.comes_to(0, text.as_bytes(), b"")
 }
 

@@ -6,7 +6,7 @@ use Rattle.schema_constraints.specs.declared.finding.RuleFinding.{RuleFinding}
 use Rattle.schema_constraints.specs.declared.tables.RuleTables.{RuleTables}
 use Rattle.schema_constraints.specs.RuleViews.{rules_seen}
 use Rattle.conformance.specs.Bases.{Domain, IsDomain}
-use Rattle.conformance.specs.Choices.{Mergeable}
+use Rattle.conformance.specs.Choices.{MergeOptions}
 use Rattle.conformance.specs.Conforming.{PopulationConforms}
 use Rattle.conformance.specs.Entities.{Entities, AreEntities}
 use Rattle.conformance.specs.Pins.{IsWeaklyPinned}
@@ -23,7 +23,7 @@ use Rattle.file_findings.specs.declared.rule_pins.Ruled.TheVariants.{Broken, Kep
 module _ (s : Schema) (is : List Instance) where
   -- `weak` holds exactly of the weakly pinned instances, whatever may be merged by `chosen`.
   abbrev pub AreWeakPins : RuleTables → Chosen → (ℕ → Bool) → Type 0
-  AreWeakPins t chosen weak = (d : Domain) (en : Entities) (those : Mergeable) → IsDomain s d → AreEntities s en
+  AreWeakPins t chosen weak = (d : Domain) (en : Entities) (those : MergeOptions) → IsDomain s d → AreEntities s en
       → AreChosen s those chosen → (y : ℕ)
       → IsTrue (weak y) ↔ IsWeaklyPinned s d en (rules_seen s t) those is y
 

@@ -5,14 +5,14 @@ use Rattle.value_equality.specs.Rows.{Row, IsPopulation}
 use Rattle.value_equality.specs.Tables.{Table, shares}
 use Rattle.value_equality.specs.Standard.{IsStandard}
 use Rattle.express_syntax.specs.Schemas.{Schema}
-use Rattle.schema_semantics.specs.Names.{OneOf}
-use Rattle.conformance.specs.Choices.{Mergeable}
+use Rattle.schema_semantics.specs.Names.{Name, OneOf}
+use Rattle.conformance.specs.Choices.{MergeOptions}
 use Rattle.conformance.specs.Bases.{Domain, IsDomain}
 use Rattle.conformance.specs.Entities.{Entities, AreEntities}
 use Rattle.conformance.specs.Pins.{StandsBesideItsClass}
 use Rattle.conformance.specs.PlainRows.{AreRowsOf}
 use Rattle.conformance.specs.Populations.{Instance}
-use Rattle.merge_choices.specs.ChosenEntities.{AreChosen}
+use Rattle.merge_choices.specs.ChosenEntities.{AreOptions}
 use Rattle.merge_choices.specs.declared.choice.Chosen.{Chosen}
 use Rattle.merge_tables.specs.steps.Merges.{Merges, HaveMembers}
 use Rattle.merge_tables.specs.declared.file_merge.Merging.{Merging}
@@ -34,6 +34,6 @@ module _ (s : Schema) (is : List Instance) where
     pub second_is : IsStandard rows pinned second
 
 -- the result of merging a file, whatever may be merged by `chosen`
-abbrev pub Comes : Schema → Chosen → File → List ℕ → Merging → Type 0
-Comes s chosen f names m =
-    ((those : Mergeable) → AreChosen s those chosen → Merges s those f m) × HaveMembers names m
+abbrev pub Comes : Schema → List Name → Chosen → File → List ℕ → Merging → Type 0
+Comes s others chosen f names m =
+    ((those : MergeOptions) → AreOptions s others those chosen → Merges s those f m) × HaveMembers names m

@@ -9,7 +9,7 @@ use Rattle.conformance.specs.declared.finding.Finding.{Finding}
 use Rattle.conformance.specs.Bases.{Domain, IsDomain}
 use Rattle.conformance.specs.Entities.{Entities, AreEntities, joined_trees, records, parameters, types_of, places_of, abstract_leaves, missing_supertypes, broken_one_ofs, wrong_counts}
 use Rattle.conformance.specs.ParameterFits.{Target}
-use Rattle.conformance.specs.Findings.{whole_findings, or_next, misfits_from, row_findings}
+use Rattle.conformance.specs.Findings.{whole_findings, or_next, misfits_from, row_findings, is_of_schema}
 use Rattle.conformance.specs.declared.finding.FindingKind.TheVariants.{AbstractInstance, MissingSupertype, OneOfBroken, ParameterCount, SchemaName}
 use Rattle.conformance.specs.declared.finding.Spot.TheVariants.{Nothing}
 use Rattle.schema_names.specs.Schemas.{the_schema}
@@ -18,7 +18,6 @@ use Rattle.parameter_fits.specs.steps.Targets.{AreTargets, target_of}
 use Rattle.population_rows.specs.declared.form.SlotForm.{SlotForm}
 use Rattle.population_rows.specs.declared.form.Form.{Form}
 use Rattle.population_forms.specs.steps.Forms.{AreSlotsOf, IsFormOf}
-use Rattle.population_findings.specs.steps.SchemaNames.{names_the_schema}
 use Rattle.population_findings.specs.steps.Rows.{HasTypes, HaveForms}
 use Rattle.population_findings.specs.declared.judge.Judge.{Judge}
 use Rattle.population_rows.specs.declared.rows.Rows.{Rows}
@@ -115,6 +114,6 @@ TellsRowsTo j t rs old left new =
     ≡ old ++ flat_map (row_findings (the_schema j.bases.names.now) d en (target_by j)) rs
 
 -- the finding about the schema's name, if any
-abbrev pub schema_told : Name → trees.File → List Finding
-schema_told n f =
-    cond (names_the_schema n f) [] (record { kind = SchemaName; instance = 0; spot = Nothing } ∷ [])
+abbrev pub schema_told : Schema → List Name → trees.File → List Finding
+schema_told s others f =
+    cond (is_of_schema s others f) [] (record { kind = SchemaName; instance = 0; spot = Nothing } ∷ [])

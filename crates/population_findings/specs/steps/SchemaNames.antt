@@ -10,7 +10,10 @@ use Rattle.step_structures.specs.Trees as trees
 use Rattle.step_exchange.specs.declared.section.Section.{Section}
 use Rattle.step_exchange.specs.Sections.{heading_of}
 use Rattle.schema_semantics.specs.Names.{Name}
-use Rattle.conformance.specs.Findings.{code_of, ends_name, or_zero, names_schema, schema_text, heading_names}
+use Rattle.express_syntax.specs.declared.tree.SchemaTree.{SchemaTree}
+use Rattle.express_syntax.specs.SchemaViews.{schema_of}
+use Rattle.conformance.specs.OtherNames.{other_names}
+use Rattle.conformance.specs.Findings.{code_of, ends_name, or_zero, schema_text, heading_names, file_names}
 
 -- the character belongs to a name and is the letter b, in either case
 abbrev pub is_next : Item → ℕ → Bool
@@ -29,10 +32,9 @@ abbrev pub IsSchemaText : List Record → Option Text → Type 0
 IsSchemaText rs None = schema_text rs ≡ []
 IsSchemaText rs (Some t) = schema_text rs ≡ t.text.now
 
-abbrev pub headings_name : Name → List Section → Bool
-headings_name n ss = list_all (λ (x : Section). heading_names n (heading_of x.heading)) ss
+abbrev pub headings_name : List Name → List Section → Bool
+headings_name names ss = list_all (λ (x : Section). heading_names names (heading_of x.heading)) ss
 
--- the structure names this schema, and each section names it or none
-abbrev pub names_the_schema : Name → File → Bool
-names_the_schema n f =
-    names_schema n (schema_text f.header) && list_all (λ (x : trees.Section). heading_names n x.heading) f.sections
+-- the names by which a file may call the schema
+abbrev pub names_in_files : SchemaTree → List Name
+names_in_files x = file_names (schema_of x) (other_names x)

@@ -3,7 +3,7 @@ use Rattle.std.specs.Prelude.{◌≡◌, ℕ, Bool, IsTrue, List, Option, None, 
 use Rattle.express_syntax.specs.Schemas.{Schema}
 use Rattle.schema_semantics.specs.Names.{Name, OneOf}
 use Rattle.schema_semantics.specs.Attributes.{Place}
-use Rattle.conformance.specs.Choices.{Mergeable}
+use Rattle.conformance.specs.Choices.{MergeOptions}
 use Rattle.conformance.specs.Entities.{Entities}
 use Rattle.conformance.specs.ParameterFits.{is_listed}
 use Rattle.conformance.specs.Populations.{Slot, Instance, slot_at}
@@ -16,7 +16,7 @@ use Rattle.step_values.specs.steps.Slots.{nth}
 use Rattle.step_values.specs.Values.{Values}
 use Rattle.population_pins.specs.declared.forms.FormRules.{FormRules}
 
-module _ (s : Schema) (en : Entities) (chosen : Mergeable) (uniques : List UniqueRule) where
+module _ (s : Schema) (en : Entities) (chosen : MergeOptions) (uniques : List UniqueRule) where
   -- An instance that has these types is pinned: one that has no subtype among them isn't chosen, or
   -- one declares a uniqueness rule.
   abbrev pub ArePinned : List Name → Type 0

@@ -17,6 +17,9 @@ use Rattle.conformance.specs.ParameterFits.{value_as}
 use Rattle.conformance.specs.Entities.{records, parameters}
 use Rattle.population_rows.specs.declared.form.SlotForm.{SlotForm}
 use Rattle.population_rows.specs.declared.form.Form.{Form}
+use Rattle.population_rows.specs.declared.rows.Rows.{Rows}
+use Rattle.step_exchange.specs.declared.structure.Exchange.{Exchange}
+use Rattle.population_findings.specs.steps.Rows.{rows_in}
 use Rattle.parameter_fits.specs.steps.References.{RefersWithin, AreFound}
 use Rattle.typed_populations.specs.PopulationTables.{form_among}
 use Rattle.population_reader.specs.declared.instance_values.Maker.{Maker}
@@ -96,3 +99,11 @@ AddsRows m old new rows = (d : Domain) → IsDomain (the_schema m.bases.names.no
 abbrev pub AddsRowsUpTo : Maker → Building → Building → (Domain → List Values) → (Domain → List Values) → Type 0
 AddsRowsUpTo m old new rows left = (d : Domain) → IsDomain (the_schema m.bases.names.now) d
     → record new { rows = new.rows ++ left d } ≡ record old { rows = old.rows ++ rows d }
+
+-- the values of the instances of a file, in order
+abbrev pub values_in : Schema → Domain → Rows → Exchange → List Values
+values_in s d rows x = rows_by s d rows.forms.items (rows_in x) rows.form_of.items
+
+-- the values of the instances of a file can be made
+abbrev pub AreReadyIn : Schema → Rows → Exchange → Type 0
+AreReadyIn s rows x = AreRowsReady s (found rows.index) rows.forms.items (rows_in x) rows.form_of.items

@@ -12,7 +12,11 @@ use Rattle.files.specs.declared.fault.FileFault.TheVariants as files
 use Rattle.reports.specs.declared.fault.Fault.{Fault}
 use Rattle.shrinking.specs.declared.summary.Summary.{Summary}
 use Rattle.shrinking.specs.Shrinking.{FileAnswers, Written}
-use Rattle.conformance.specs.Choices.{Mergeable}
+use Rattle.conformance.specs.Choices.{Choice, MergeOptions}
+use Rattle.conformance.specs.OtherNames.{other_names}
+use Rattle.schema_names.specs.declared.names.Names.{Names}
+use Rattle.schema_names.specs.Schemas.{the_schema}
+use Rattle.checking.specs.Checks.{IsResolvedSchemaText}
 
 -- both texts are written, `text` first
 abbrev pub Writes : Written → Written → List ℕ → List ℕ → Result Unit FileFault → Type 0
@@ -34,8 +38,12 @@ is_written role r = false
 abbrev pub IsRefused : Bool → Schema → Type 0
 IsRefused strict s = (strict ≡ true) × (∥ AreUnchecked s [] ∥₁ → ⊥)
 
+-- The text reads as the schema to which the names belong, and the choice has the other names of this schema.
+abbrev pub IsTextFor : Names → Choice → List ℕ → Type 0
+IsTextFor n c text = IsResolvedSchemaText (the_schema n) text × (c.other_names ≡ other_names n.schema.now)
+
 -- the result for a file of these bytes, and what is written
-pub record FileShrinks (s : Schema) (chosen : Mergeable) (bytes : List ℕ) (to_output to_certificate : Written)
+pub record FileShrinks (s : Schema) (chosen : MergeOptions) (bytes : List ℕ) (to_output to_certificate : Written)
     (result : Result Summary Fault) : Type 0 where
   pub output : List ℕ
   pub certificate : List ℕ
@@ -45,7 +53,7 @@ pub record FileShrinks (s : Schema) (chosen : Mergeable) (bytes : List ℕ) (to_
 
 -- the result for a file that a source delivers, and what is written; `file` are the bytes to come, if they are
 -- revealed
-pub record SourceShrinks (s : Schema) (chosen : Mergeable) (file : Option (List ℕ)) (to_output to_certificate : Written)
+pub record SourceShrinks (s : Schema) (chosen : MergeOptions) (file : Option (List ℕ)) (to_output to_certificate : Written)
     (result : Result Summary Fault) : Type 0 where
   pub bytes : List ℕ
   pub bytes_are : IfSome file (λ b. b ≡ bytes)

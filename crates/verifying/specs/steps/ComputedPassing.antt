@@ -8,7 +8,8 @@ use Rattle.value_equality.specs.Standard.{IsWellFormed}
 use Rattle.value_equality.specs.Tables.{Table, HasMembers, IsValid}
 use Rattle.value_equality.specs.TableViews.{table_of}
 use Rattle.express_syntax.specs.Schemas.{Schema}
-use Rattle.conformance.specs.Choices.{Choice, mergeable, Mergeable}
+use Rattle.schema_semantics.specs.Names.{Name}
+use Rattle.conformance.specs.Choices.{Choice, merge_options, MergeOptions}
 use Rattle.conformance.specs.Populations.{Instance}
 use Rattle.conformance.specs.SchemaMeanings.{Said, instances}
 use Rattle.step_headings.specs.steps.Views.{AreHeadingsOf}
@@ -46,12 +47,12 @@ pub record IsReady (j : Judged) : Type 0 where
 
 module _ (s : Schema) where
   -- The rows of the input, and its weak pins, with the lists that the gentle pins need.
-  pub record AreKnown (chosen : Mergeable) (f : File) (rows : List Row) (weak : WeakPins) : Type 0 where
+  pub record AreKnown (chosen : MergeOptions) (f : File) (rows : List Row) (weak : WeakPins) : Type 0 where
     pub are_rows : AreRows s f rows
     pub are_weak : AreWeak s chosen f (is_pinned weak.pins)
     pub are_unique : (said : Said s) → AreUniqueOf s (instances s said f) weak.lists
 
-  module _ (chosen : Mergeable) (f : File) (certificate : List ℕ) where
+  module _ (chosen : MergeOptions) (f : File) (certificate : List ℕ) where
     -- The outcome for a certificate's tables: both hold, and the table of `j` is the second one, for these rows; or
     -- the certificate is refused, whatever the output is.
     abbrev pub IsJudgement : Result Judged TablesFault → Type 0
@@ -80,49 +81,55 @@ module _ (s : Schema) where
   -- outcome for the tables.
   abbrev pub AnswersTyped : Headings → Result Judged TablesFault → File → List Instance → Result Proof TablesFault
       → Type 0
-  AnswersTyped hs j g js r = (chosen : Mergeable) (certificate : List ℕ) (f : File) → AreHeadingsOf hs f
+  AnswersTyped hs j g js r = (chosen : MergeOptions) (certificate : List ℕ) (f : File) → AreHeadingsOf hs f
       → IsJudgement chosen f certificate j → ((said : Said s) → js ≡ instances s said g)
       → IsAnswer chosen f certificate g r
 
+  -- The schema and the choice are settled, and the choice has these other names.
+  abbrev pub SettlesBy : List Name → List ℕ → Choice → Type 0
+  SettlesBy others schema choice = Settles schema choice s × (choice.other_names ≡ others)
+
   -- The result for an output, where the input has no findings, its sections have these headings, and this is the
   -- outcome for the certificate's tables:
-  module _ (hs : Headings) (j : Result Judged TablesFault) (r : Result Proof Fault) where
+  module _ (others : List Name) (hs : Headings) (j : Result Judged TablesFault) (r : Result Proof Fault) where
     -- the output reads as this structure
     abbrev pub AnswersOutput : File → Type 0
     AnswersOutput g = (schema input output certificate header_bytes : List ℕ) (choice : Choice) (f : File)
-        → AreHeadingsOf hs f → Settles schema choice s → IsConformingInput s input f
-        → IsJudgement (mergeable s choice) f certificate j → ReadsAs output header_bytes g
+        → AreHeadingsOf hs f → SettlesBy others schema choice → IsConformingInput s choice.other_names input f
+        → IsJudgement (merge_options s choice) f certificate j → ReadsAs output header_bytes g
         → Verifies schema input output certificate choice r
 
     -- the output is this text
     abbrev pub AnswersClean : List ℕ → Type 0
     AnswersClean output = (schema input certificate : List ℕ) (choice : Choice) (f : File) → AreHeadingsOf hs f
-        → Settles schema choice s → IsConformingInput s input f → IsJudgement (mergeable s choice) f certificate j
+        → SettlesBy others schema choice → IsConformingInput s choice.other_names input f
+        → IsJudgement (merge_options s choice) f certificate j
         → Verifies schema input output certificate choice r
 
-  module _ (certificate : List ℕ) where
+  module _ (others : List Name) (certificate : List ℕ) where
     -- The outcome for an input before the output is read: it has no findings, and the certificate's tables have
     -- this outcome; or the result is this fault, whatever the output is.
     module _ (schema input : List ℕ) (choice : Choice) (f : File) where
       abbrev pub IsFinding : Result (Result Judged TablesFault) Fault → Type 0
-      IsFinding (Ok j) = IsConformingInput s input f × IsJudgement (mergeable s choice) f certificate j
+      IsFinding (Ok j) = IsConformingInput s choice.other_names input f × IsJudgement (merge_options s choice) f certificate j
       IsFinding (Err e) = (output : List ℕ) → Verifies schema input output certificate choice (Err e)
 
     module _ (r : Result (Result Judged TablesFault) Fault) where
       -- the input reads as this structure
       abbrev pub Finds : Chosen → File → Type 0
-      Finds c f = (schema input header_bytes : List ℕ) (choice : Choice) → Settles schema choice s
-          → AreChosen s (mergeable s choice) c → ReadsAs input header_bytes f → IsFinding schema input choice f r
+      Finds c f = (schema input header_bytes : List ℕ) (choice : Choice)
+          → SettlesBy others schema choice → AreChosen s (merge_options s choice) c → ReadsAs input header_bytes f
+          → IsFinding schema input choice f r
 
   -- The result, for all earlier texts and choices:
-  module _ (output certificate : List ℕ) (r : Result Proof Fault) where
+  module _ (others : List Name) (output certificate : List ℕ) (r : Result Proof Fault) where
     -- the input reads as this structure
     abbrev pub AnswersRead : Chosen → File → Type 0
-    AnswersRead c f = (schema input header_bytes : List ℕ) (choice : Choice) → Settles schema choice s
-        → AreChosen s (mergeable s choice) c → ReadsAs input header_bytes f
+    AnswersRead c f = (schema input header_bytes : List ℕ) (choice : Choice) → SettlesBy others schema choice
+        → AreChosen s (merge_options s choice) c → ReadsAs input header_bytes f
         → Verifies schema input output certificate choice r
 
     -- the choice is settled
     abbrev pub AnswersSettled : Chosen → List ℕ → Type 0
-    AnswersSettled c input = (schema : List ℕ) (choice : Choice) → Settles schema choice s
-        → AreChosen s (mergeable s choice) c → Verifies schema input output certificate choice r
+    AnswersSettled c input = (schema : List ℕ) (choice : Choice) → SettlesBy others schema choice
+        → AreChosen s (merge_options s choice) c → Verifies schema input output certificate choice r

@@ -1,4 +1,5 @@
 use Rattle.step_exchange.specs.Exchanges.{structure}
+use Rattle.conformance.specs.OtherNames.{other_names}
 use Rattle.schema_names.specs.Schemas.{the_schema}
 use Rattle.checking.proofs.Answering.{as-many, unread-text}
 use Rattle.checking.proofs.check.report.Goals as goal
@@ -17,5 +18,5 @@ returns c =
 
 pub returns-in-Err : goal.returns-in-Err
 returns-in-Err c =
-    unread-text (the_schema c.args.graph.types.names) c.args.bytes.now c.in-Err.fault c.of_text.result
+    unread-text (other_names c.args.graph.types.names.schema.now) (the_schema c.args.graph.types.names) c.args.bytes.now c.in-Err.fault c.of_text.result
     c.of_file.result c.of_text.ensures c.of_file.ensures c.requires.within c.in-Err.ensures.fault

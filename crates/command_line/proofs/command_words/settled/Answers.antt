@@ -1,5 +1,5 @@
 use Rattle.std.proofs.Common.{ap}
-use Rattle.command_line.specs.steps.AskedMerges.{text_of}
+use Rattle.command_line.specs.steps.Options.{text_of}
 use Rattle.command_line.proofs.command_words.settled.Goals as goal
 
 pub returns-in-Some : goal.returns-in-Some

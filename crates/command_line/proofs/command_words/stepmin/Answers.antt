@@ -18,5 +18,7 @@ returns c =
     ∙ ap₂ with_subcommand first (ap (λ (a : App). a.top) c.in_ok-check.ensures.app) in
     let third = c.in_ok-subcommand-3.ensures.shape c.in_ok-shrink.ensures.local
     ∙ ap₂ with_subcommand second (ap (λ (a : App). a.top) c.in_ok-shrink.ensures.app) in
-    IfOk-weaker c.subcommand-4.result _ _ (λ r h. h.shape c.in_ok-verify.ensures.local ∙ ap₂ with_subcommand third
-    (ap (λ (a : App). a.top) c.in_ok-verify.ensures.app)) c.subcommand-4.ensures
+    let fourth = c.in_ok-subcommand-4.ensures.shape c.in_ok-verify.ensures.local
+    ∙ ap₂ with_subcommand third (ap (λ (a : App). a.top) c.in_ok-verify.ensures.app) in
+    IfOk-weaker c.subcommand-5.result _ _ (λ r h. h.shape c.presets.ensures.local ∙ ap₂ with_subcommand fourth
+    (ap (λ (a : App). a.top) c.presets.ensures.app)) c.subcommand-5.ensures

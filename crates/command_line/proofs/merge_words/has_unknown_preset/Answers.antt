@@ -1,7 +1,7 @@
 use Rattle.std.proofs.Common.{◌∙◌, ap, lit<, rules, sym, tests}
 use Rattle.std.proofs.lemmas.Iterator.Search.{any_from_yields_List}
 use Rattle.std.proofs.lemmas.Iterator.Splits.{YieldsList-from_str_split}
-use Rattle.command_line.specs.steps.AskedMerges.{text_of}
+use Rattle.command_line.specs.steps.Options.{text_of}
 use Rattle.command_line.specs.Commands.{has_unknown_preset, is_unknown_preset}
 use Rattle.command_line.proofs.merge_words.has_unknown_preset.Goals as goal
 

@@ -1,9 +1,8 @@
-use Rattle.std.proofs.Common.{◌∙◌, IfSome, inl, inr, subst, sym}
-use Rattle.files.specs.Stores.{reader_seen}
+use Rattle.std.proofs.Common.{IfSome, inl, inr, refl, subst, sym}
 use Rattle.commands.specs.steps.ComputedRequests.{IsWritten}
 use Rattle.commands.specs.Plain.{FailsAs, Plain}
-use Rattle.commands.proofs.Keeping.{checks_as, done_as, is_stored, is_stored_first}
-use Rattle.commands.proofs.Opening.{opens_two, request_opens}
+use Rattle.commands.proofs.Keeping.{done_as}
+use Rattle.commands.proofs.Opening.{opens_none, request_opens}
 use Rattle.commands.proofs.command.run.Goals as goal
 
 pub returns-in-Plain-clause-does : goal.returns-in-Plain-clause-does
@@ -18,16 +17,11 @@ returns-in-Plain-clause-does g c = done_as _ _ _ _ _ _ (sym c.in-Plain.is) (reco
 
 pub returns-in-Check-clause-does : goal.returns-in-Check-clause-does
 returns-in-Check-clause-does g c =
-    let contents = g.S.Store.contents in
-    let fails = g.S.Store.fails in
-    let schema = is_stored_first contents fails c.args.store.now _
-    (reader_seen g.S.Reader.Source.to_come g.S.Reader.Source.fails c.reader-schema.result)
-    c.reader-schema.ensures.contents c.reader-schema.ensures.fails in
-    let file = is_stored contents fails c.args.store.now _ _
-    (reader_seen g.S.Reader.Source.to_come g.S.Reader.Source.fails c.reader-file.result) c.reader-schema.ensures.kept
-    c.reader-schema.ensures.same c.reader-file.ensures.contents c.reader-file.ensures.fails in
-    done_as _ _ _ _ _ _ (sym c.in-Check.is)
-    (checks_as _ _ _ _ _ schema file c.run_check.ensures.runs)
+    done_as _ _ _ _ _ _ (sym c.in-Check.is) c.check_asked.ensures.checks
+
+pub returns-in-Presets-clause-does : goal.returns-in-Presets-clause-does
+returns-in-Presets-clause-does g c =
+    done_as _ _ _ _ _ _ (sym c.in-Presets.is) (inl (c.tell_presets.ensures, refl))
 
 pub returns-in-Shrink-clause-does : goal.returns-in-Shrink-clause-does
 returns-in-Shrink-clause-does g c =
@@ -41,8 +35,7 @@ pub returns-in-Plain-clause-kept : goal.returns-in-Plain-clause-kept
 returns-in-Plain-clause-kept g c path apart = c.reader-source.ensures.kept path
 
 pub returns-in-Check-clause-kept : goal.returns-in-Check-clause-kept
-returns-in-Check-clause-kept g c path apart =
-    c.reader-file.ensures.kept path ∙ c.reader-schema.ensures.kept path
+returns-in-Check-clause-kept g c path apart = c.check_asked.ensures.kept path
 
 pub returns-in-Verify-clause-kept : goal.returns-in-Verify-clause-kept
 returns-in-Verify-clause-kept g c path apart = c.verify_asked.ensures.kept path
@@ -56,8 +49,10 @@ pub returns-in-Plain-clause-opened : goal.returns-in-Plain-clause-opened
 returns-in-Plain-clause-opened g c = request_opens _ _ _ _ _ _ (sym c.in-Plain.is) (inl c.reader-source.ensures.opened)
 
 pub returns-in-Check-clause-opened : goal.returns-in-Check-clause-opened
-returns-in-Check-clause-opened g c = request_opens _ _ _ _ _ _ (sym c.in-Check.is)
-    (inl (opens_two g.S.Store.opened _ _ _ _ _ c.reader-schema.ensures.opened c.reader-file.ensures.opened))
+returns-in-Check-clause-opened g c = request_opens _ _ _ _ _ _ (sym c.in-Check.is) c.check_asked.ensures.opened
+
+pub returns-in-Presets-clause-opened : goal.returns-in-Presets-clause-opened
+returns-in-Presets-clause-opened g c = request_opens _ _ _ _ _ _ (sym c.in-Presets.is) (inl (opens_none _))
 
 pub returns-in-Shrink-clause-opened : goal.returns-in-Shrink-clause-opened
 returns-in-Shrink-clause-opened g c = request_opens _ _ _ _ _ _ (sym c.in-Shrink.is) c.shrink_asked.ensures.opened

@@ -1,9 +1,10 @@
 use Rattle.std.proofs.Common.{map, inr, refl, string_bytes}
 use Rattle.files.specs.Stores.{file_seen}
 use Rattle.command_line.proofs.Asking.{are_texts}
+use Rattle.command_line.proofs.Settling.{any_or_nothing}
 use Rattle.commands.proofs.Opening.{asked_opens}
-use Rattle.commands.proofs.Running.{apart_asked, asked_runs, none_asked, refused_opens, refused_runs, written_asked}
-use Rattle.commands.proofs.Words.{asks}
+use Rattle.commands.proofs.Requested.{apart_asked, is_asked_for, written_asked}
+use Rattle.commands.proofs.Running.{asked_runs, refused_opens, refused_runs}
 use Rattle.commands.proofs.command.run_command.Goals as goal
 
 pub run-requires : goal.run-requires
@@ -14,8 +15,8 @@ run-requires g c = λ k. (
 )
 
 pub returns-in-Ok-clause-unopened : goal.returns-in-Ok-clause-unopened
-returns-in-Ok-clause-unopened g c = λ none. absurd (none_asked (map string_bytes c.args.words.now) c.in-Ok.request none
-    c.in-Ok.ensures.asked)
+returns-in-Ok-clause-unopened g c = λ none.
+    absurd (none (is_asked_for (map string_bytes c.args.words.now) c.in-Ok.request c.in-Ok.ensures.asked))
 
 pub returns-in-Ok-clause-opened : goal.returns-in-Ok-clause-opened
 returns-in-Ok-clause-opened g c = asked_opens (map string_bytes c.args.words.now) c.in-Ok.request _ _ _ _
@@ -36,21 +37,13 @@ pub returns-in-Err-clause-opened : goal.returns-in-Err-clause-opened
 returns-in-Err-clause-opened g c = inr (
   refl,
   refused_opens (map string_bytes c.args.words.now)
-      (asks (map string_bytes c.args.words.now) (are_texts c.args.words.now)) c.in-Err.refusal (record {
-        plain = c.in-Err.ensures.granted;
-        check = c.in-Err.ensures.check_granted;
-        shrink = c.in-Err.ensures.shrink_granted;
-        verify = c.in-Err.ensures.verify_granted;
-      }) _ c.refuse.ensures.refuses,
+      (any_or_nothing (map string_bytes c.args.words.now) (are_texts c.args.words.now)) c.in-Err.refusal
+      c.in-Err.ensures.granted _ c.refuse.ensures.refuses,
 )
 
 pub returns-in-Err-clause-runs : goal.returns-in-Err-clause-runs
 returns-in-Err-clause-runs g c =
     refused_runs _ (map string_bytes c.args.words.now)
-    (file_seen g.S.Store.contents g.S.Store.fails c.args.store.now) _ _
-    (asks (map string_bytes c.args.words.now) (are_texts c.args.words.now)) c.in-Err.refusal (record {
-      plain = c.in-Err.ensures.granted;
-      check = c.in-Err.ensures.check_granted;
-      shrink = c.in-Err.ensures.shrink_granted;
-      verify = c.in-Err.ensures.verify_granted;
-    }) c.in-Err.ensures.refused c.refuse.ensures.refuses (λ path. refl)
+    (file_seen g.S.Store.contents g.S.Store.fails c.args.store.now) _ _ c.in-Err.refusal c.refuse.ensures.refuses
+    (λ path. refl) (any_or_nothing (map string_bytes c.args.words.now) (are_texts c.args.words.now))
+    c.in-Err.ensures.granted c.in-Err.ensures.refused

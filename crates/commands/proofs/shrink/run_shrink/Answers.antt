@@ -6,6 +6,7 @@ use Rattle.merge_choices.specs.ChosenEntities.{choice_of}
 use Rattle.reports.proofs.Failing.{unread_device, unread_other}
 use Rattle.shrinking.specs.Shrinking.{Shrinks, written_to}
 use Rattle.shrinking.specs.declared.summary.Summary.{Summary}
+use Rattle.commands.proofs.Blaming.{of_six}
 use Rattle.commands.proofs.FaultEndings.{device_ends, one_failed}
 use Rattle.commands.proofs.MergeRuns.{read_shrink, unread_shrink}
 use Rattle.commands.proofs.shrink.run_shrink.Goals as goal
@@ -28,7 +29,7 @@ returns-in-Ok-shrink-clause-runs g c =
     (written_to g.C.Sink.held c.args.certificate.now c.shrink.new.certificate) (Ok c.in-Ok-shrink.summary))
     c.deref.ensures.value c.in-Ok-shrink.ensures.shrinks) c.in-Ok-shrink.ensures.no_schema_fault
     c.in-Ok-shrink.ensures.file_told c.in-Ok-shrink.ensures.output_fault c.in-Ok-shrink.ensures.certificate_fault
-    c.tell_merge.ensures
+    (c.tell_merge.ensures, refl)
 
 pub returns-clause-runs : goal.returns-clause-runs
 returns-clause-runs g c =
@@ -44,19 +45,19 @@ returns-clause-runs g c =
     c.tell_fault-in-Err-shrink.ensures
 
 pub returns-in-Err-clause-device : goal.returns-in-Err-clause-device
-returns-in-Err-clause-device g c is schema file output certificate out err =
+returns-in-Err-clause-device g c = λ is fresh.
     let other = unread_other Summary roles.Schema c.in-Err.fault c.unread.result c.unread.ensures in
-    one_failed Summary c.unread.result _ _ _ _ _
-    (c.in-Err.ensures.failed schema
-    ∙ unread_device Summary roles.Schema c.in-Err.fault c.unread.result c.unread.ensures (Vec ℕ Global)) (file ∙ sym (other roles.File refl))
-    (output ∙ sym (other roles.Output refl)) (certificate ∙ sym (other roles.Certificate refl)) c.tell_fault.ensures is out err
+    of_six _ _ _ _ _ _ (one_failed Summary c.unread.result _ _ _ _ _
+    (c.in-Err.ensures.failed fresh.0
+    ∙ unread_device Summary roles.Schema c.in-Err.fault c.unread.result c.unread.ensures (Vec ℕ Global)) (fresh.1.0 ∙ sym (other roles.File refl))
+    (fresh.1.1.0 ∙ sym (other roles.Output refl)) (fresh.1.1.1.0 ∙ sym (other roles.Certificate refl)) c.tell_fault.ensures is fresh.1.1.1.1.0 fresh.1.1.1.1.1.0)
 
 pub returns-clause-device : goal.returns-clause-device
-returns-clause-device g c is schema file output certificate out err =
-    one_failed Summary c.in-Err-shrink.fault _ _ _ _ _
-    (c.in-Ok.ensures.failed schema ∙ sym c.in-Err-shrink.ensures.no_schema_fault)
-    (c.in-Err-shrink.ensures.file_fault file) (c.in-Err-shrink.ensures.output_fault output)
-    (c.in-Err-shrink.ensures.certificate_fault certificate) c.tell_fault-in-Err-shrink.ensures is out err
+returns-clause-device g c = λ is fresh.
+    of_six _ _ _ _ _ _ (one_failed Summary c.in-Err-shrink.fault _ _ _ _ _
+    (c.in-Ok.ensures.failed fresh.0 ∙ sym c.in-Err-shrink.ensures.no_schema_fault)
+    (c.in-Err-shrink.ensures.file_fault fresh.1.0) (c.in-Err-shrink.ensures.output_fault fresh.1.1.0)
+    (c.in-Err-shrink.ensures.certificate_fault fresh.1.1.1.0) c.tell_fault-in-Err-shrink.ensures is fresh.1.1.1.1.0 fresh.1.1.1.1.1.0)
 
 pub returns-in-Err-clause-schema_failed : goal.returns-in-Err-clause-schema_failed
 returns-in-Err-clause-schema_failed g c fresh fails =

@@ -4,6 +4,7 @@ use Rattle.files.specs.declared.fault.Role.TheVariants as roles
 use Rattle.merge_choices.specs.ChosenEntities.{choice_of}
 use Rattle.verifying.specs.Sources.{VerifiesAll, given, no_schema}
 use Rattle.verifying.specs.declared.proof.Proof.{Proof}
+use Rattle.commands.proofs.Blaming.{of_six}
 use Rattle.commands.proofs.FaultEndings.{device_ends, one_failed}
 use Rattle.commands.proofs.VerifyRuns.{read_verifies, schema_alone}
 use Rattle.commands.proofs.verify.run_verify.Goals as goal
@@ -16,10 +17,10 @@ returns-in-Err-clause-runs g c = record {
 }
 
 pub returns-in-Err-clause-device : goal.returns-in-Err-clause-device
-returns-in-Err-clause-device g c is schema file output certificate out err =
+returns-in-Err-clause-device g c = λ is fresh.
     let alone = schema_alone _ c.in-Err.fault c.in-Err.ensures.read in
-    one_failed Proof c.in-Err.fault _ _ _ _ _ (c.in-Err.ensures.failed schema)
-    (file ∙ sym alone.0) (output ∙ sym alone.1) (certificate ∙ sym alone.2) c.tell_fault.ensures is out err
+    of_six _ _ _ _ _ _ (one_failed Proof c.in-Err.fault _ _ _ _ _ (c.in-Err.ensures.failed fresh.0)
+    (fresh.1.0 ∙ sym alone.0) (fresh.1.1.0 ∙ sym alone.1) (fresh.1.1.1.0 ∙ sym alone.2) c.tell_fault.ensures is fresh.1.1.1.1.0 fresh.1.1.1.1.1.0)
 
 pub returns-in-Ok-verify_files-clause-runs : goal.returns-in-Ok-verify_files-clause-runs
 returns-in-Ok-verify_files-clause-runs g c = record {
@@ -34,7 +35,7 @@ returns-in-Ok-verify_files-clause-runs g c = record {
       (reader_seen g.W.Source.to_come g.W.Source.fails c.args.output.now)
       (reader_seen g.C.Source.to_come g.C.Source.fails c.args.certificate.now) (Ok c.in-Ok-verify_files.proof))
       c.deref.ensures.value c.in-Ok-verify_files.ensures.verifies);
-  ends = c.tell_proof.ensures;
+  ends = (c.tell_proof.ensures, refl);
 }
 
 pub returns-clause-runs : goal.returns-clause-runs
@@ -54,11 +55,11 @@ returns-clause-runs g c = record {
 }
 
 pub returns-clause-device : goal.returns-clause-device
-returns-clause-device g c is schema file output certificate out err =
-    one_failed Proof c.in-Err-verify_files.fault _ _ _ _ _
-    (c.in-Ok.ensures.failed schema ∙ sym c.in-Err-verify_files.ensures.no_schema_fault)
-    (c.in-Err-verify_files.ensures.file_failed file) (c.in-Err-verify_files.ensures.output_failed output)
-    (c.in-Err-verify_files.ensures.certificate_failed certificate) c.tell_fault-in-Err-verify_files.ensures is out err
+returns-clause-device g c = λ is fresh.
+    of_six _ _ _ _ _ _ (one_failed Proof c.in-Err-verify_files.fault _ _ _ _ _
+    (c.in-Ok.ensures.failed fresh.0 ∙ sym c.in-Err-verify_files.ensures.no_schema_fault)
+    (c.in-Err-verify_files.ensures.file_failed fresh.1.0) (c.in-Err-verify_files.ensures.output_failed fresh.1.1.0)
+    (c.in-Err-verify_files.ensures.certificate_failed fresh.1.1.1.0) c.tell_fault-in-Err-verify_files.ensures is fresh.1.1.1.1.0 fresh.1.1.1.1.1.0)
 
 pub returns-in-Err-clause-schema_failed : goal.returns-in-Err-clause-schema_failed
 returns-in-Err-clause-schema_failed g c fresh fails =

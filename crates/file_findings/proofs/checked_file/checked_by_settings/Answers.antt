@@ -1,6 +1,7 @@
 use Rattle.std.proofs.Common.{IfOk, sym, subst}
 use Rattle.conformance.specs.SchemaMeanings.{Said}
 use Rattle.step_exchange.specs.Exchanges.{structure}
+use Rattle.conformance.specs.OtherNames.{other_names}
 use Rattle.schema_names.specs.Schemas.{the_schema}
 use Rattle.typed_populations.specs.PopulationViews.{population_seen}
 use Rattle.typed_populations.specs.TypedPopulations.{IsTyped}
@@ -27,8 +28,8 @@ checked_by_population-requires-clause-typed c =
     let p = c.in-Typed.population in
     let types = c.args.graph.now.types in
     let verdict = subst (IsVerdict types c.args.exchange.now) c.in-Typed.is c.in_ok-verdict.ensures in
-    subst (λ t. IsTyped (the_schema t.names) (structure p.exchange.now) (population_seen p)) (sym verdict.0)
-    (subst (λ x. IsTyped (the_schema types.names) (structure x) (population_seen p)) (sym verdict.1) verdict.2)
+    subst (λ t. IsTyped (the_schema t.names) (other_names t.names.schema.now) (structure p.exchange.now) (population_seen p)) (sym verdict.0)
+    (subst (λ x. IsTyped (the_schema types.names) (other_names types.names.schema.now) (structure x) (population_seen p)) (sym verdict.1) verdict.2)
 
 pub returns-in-Typed : goal.returns-in-Typed
 returns-in-Typed c =
@@ -37,15 +38,15 @@ returns-in-Typed c =
     let chosen = c.args.chosen.now in
     let r = c.checked_by_population.result in
     let verdict = subst (IsVerdict types c.args.exchange.now) c.in-Typed.is c.in_ok-verdict.ensures in
-    subst (λ x. IfOk r (ChecksFile (the_schema types.names) (structure x) chosen)) verdict.1
-    (subst (λ t. IfOk r (ChecksFile (the_schema t.names) (structure p.exchange.now) chosen)) verdict.0
+    subst (λ x. IfOk r (ChecksFile (the_schema types.names) (other_names types.names.schema.now) (structure x) chosen)) verdict.1
+    (subst (λ t. IfOk r (ChecksFile (the_schema t.names) (other_names t.names.schema.now) (structure p.exchange.now) chosen)) verdict.0
     c.checked_by_population.ensures)
 
 pub returns-in-Faulty : goal.returns-in-Faulty
 returns-in-Faulty c =
     let types = c.args.graph.now.types in
     let x = c.args.exchange.now in
-    faulty-one-by-one (the_schema types.names) (structure x) c.schema_is_said.ensures c.args.chosen.now
+    faulty-one-by-one (the_schema types.names) (other_names types.names.schema.now) (structure x) c.schema_is_said.ensures c.args.chosen.now
     (record { findings = c.in-Faulty.findings; rules = c.empty_report.result })
     (subst (IsVerdict types x) c.in-Faulty.is c.in_ok-verdict.ensures) c.empty_report.ensures.findings
     c.empty_report.ensures.unknown

@@ -1,4 +1,5 @@
 use Rattle.std.proofs.Common.{sym, subst}
+use Rattle.conformance.specs.OtherNames.{other_names}
 use Rattle.conformance.specs.Conforming.{PopulationConforms}
 use Rattle.conformance.specs.SchemaMeanings.{Said}
 use Rattle.step_exchange.specs.Exchanges.{structure}
@@ -26,7 +27,7 @@ returns-in_ok-found_by_rules-in-Typed c =
     let p = c.in-Typed.population in
     let r = c.in_ok-found_by_rules-in-Typed.field-0 in
     let (types, exchange, typed) = subst (IsVerdict graph.types c.args.exchange.now) c.in-Typed.is c.in_ok-population.ensures in
-    found-by-rules s (structure c.args.exchange.now) c.schema_is_said.ensures
+    found-by-rules s (other_names graph.types.names.schema.now) (structure c.args.exchange.now) c.schema_is_said.ensures
     c.no_findings_exactly_where_it_conforms.ensures (population_seen p) _ r.findings.items r.unknown typed
     c.new.ensures.items
     (subst (λ t. (said : Said (the_schema t.names))
@@ -37,6 +38,7 @@ returns-in_ok-found_by_rules-in-Typed c =
 pub returns-in-Faulty : goal.returns-in-Faulty
 returns-in-Faulty c =
     let graph = c.args.graph.now in
-    found-one-by-one (the_schema graph.types.names) (structure c.args.exchange.now) c.schema_is_said.ensures
+    found-one-by-one (the_schema graph.types.names) (other_names graph.types.names.schema.now)
+    (structure c.args.exchange.now) c.schema_is_said.ensures
     c.in-Faulty.findings.items _ _ (subst (IsVerdict graph.types c.args.exchange.now) c.in-Faulty.is c.in_ok-population.ensures)
     c.empty_report.ensures.findings c.empty_report.ensures.unknown

@@ -9,7 +9,7 @@ use Rattle.rule_sources.proofs.sources.named_source.Goals as goal
 pub returns-in-Some : goal.returns-in-Some
 returns-in-Some c =
     let s = the_schema c.args.schema.now.names in
-    let inverses = inverses_seen s c.args.inverses.now in
+    let inverses = inverses_seen s c.args.tables.now.inverses.now in
     let form = c.args.form.now in
     let a = capitals c.args.name in
     let x = c.in-Some.source in

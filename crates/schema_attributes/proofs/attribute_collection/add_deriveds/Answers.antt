@@ -8,7 +8,7 @@ use Rattle.schema_attributes.proofs.attribute_collection.add_deriveds.Goals as g
 
 pub loop-n-init : goal.loop-n-init
 loop-n-init c =
-    none-yet (SaysDerived (the_schema c.args.sources.now.names.now) c.args.entity c.args.row.now c.args.first c.args.count) (map derived_of c.args.deriveds.now)
+    none-yet (SaysDerived (the_schema c.args.sources.now.names.now) c.args.owner.now.entity c.args.owner.now.row.now c.args.first c.args.owner.now.count) (map derived_of c.args.deriveds.now)
     c.args.table.now
 
 pub loop-n-preserved : goal.loop-n-preserved
@@ -16,7 +16,7 @@ loop-n-preserved c =
     let xs = c.args.deriveds.now in
     let n = c.loop-n.n in
     let x = c.index-deriveds-n.result in
-    one-more (SaysDerived (the_schema c.args.sources.now.names.now) c.args.entity c.args.row.now c.args.first c.args.count) (map derived_of xs) n (derived_of x)
+    one-more (SaysDerived (the_schema c.args.sources.now.names.now) c.args.owner.now.entity c.args.owner.now.row.now c.args.first c.args.owner.now.count) (map derived_of xs) n (derived_of x)
     c.args.table.now c.loop-n.table c.add_derived.new.table
     (seen derived_of xs n x c.loop-n-test.true c.index-deriveds-n.is) c.loop-n.invariant c.in_ok-add_derived.ensures
 
@@ -27,5 +27,5 @@ returns c =
     let before = c.loop-n.auto.n-end in
     let after = c.loop-n-test.false in
     let end : n ≡ length xs = omega (arith, before, after) in
-    at-length (SaysDerived (the_schema c.args.sources.now.names.now) c.args.entity c.args.row.now c.args.first c.args.count) (map derived_of xs) n
+    at-length (SaysDerived (the_schema c.args.sources.now.names.now) c.args.owner.now.entity c.args.owner.now.row.now c.args.first c.args.owner.now.count) (map derived_of xs) n
     c.args.table.now c.loop-n.table (end ∙ sym (length-map xs derived_of)) c.loop-n.invariant

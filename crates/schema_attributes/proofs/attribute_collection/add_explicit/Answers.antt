@@ -14,19 +14,19 @@ pub returns-in-Some : goal.returns-in-Some
 returns-in-Some c =
     let s = the_schema c.args.sources.now.names.now in
     let x = explicit_of c.args.explicit.now in
-    let said : ℕ → Saying = λ k. SaysTogether s c.args.entity k None x.attributes in
+    let said : ℕ → Saying = λ k. SaysTogether s c.args.owner.now.entity k None x.attributes in
     on_ok_weaker c.add_attributes.result (λ h. adds-alike c.args.table.now c.add_attributes.new.table
-    (said c.in-Some.data_type) (SaysExplicit s c.args.entity c.args.row.now c.args.n x)
-    (with-number said (slice_get c.args.row.now c.args.n) c.in-Some.data_type
+    (said c.in-Some.data_type) (SaysExplicit s c.args.owner.now.entity c.args.owner.now.row.now c.args.n x)
+    (with-number said (slice_get c.args.owner.now.row.now c.args.n) c.in-Some.data_type
     (sym c.item_at.ensures ∙ c.in-Some.is))
     (subst (λ ys. AddsAll c.args.table.now
-    (SaysTogether s c.args.entity c.in-Some.data_type None ys) c.add_attributes.new.table)
+    (SaysTogether s c.args.owner.now.entity c.in-Some.data_type None ys) c.add_attributes.new.table)
     c.as_slice.ensures h)) c.add_attributes.ensures
 
 pub returns-in-None : goal.returns-in-None
 returns-in-None c =
     let s = the_schema c.args.sources.now.names.now in
     let x = explicit_of c.args.explicit.now in
-    adds-nothing c.args.table.now (SaysExplicit s c.args.entity c.args.row.now c.args.n x)
-    (without-number (λ k. SaysTogether s c.args.entity k None x.attributes)
-    (slice_get c.args.row.now c.args.n) (sym c.item_at.ensures ∙ c.in-None.is))
+    adds-nothing c.args.table.now (SaysExplicit s c.args.owner.now.entity c.args.owner.now.row.now c.args.n x)
+    (without-number (λ k. SaysTogether s c.args.owner.now.entity k None x.attributes)
+    (slice_get c.args.owner.now.row.now c.args.n) (sym c.item_at.ensures ∙ c.in-None.is))

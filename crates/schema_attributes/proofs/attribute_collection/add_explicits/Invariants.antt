@@ -7,4 +7,4 @@ use Rattle.schema_attributes.proofs.attribute_collection.add_explicits.Given as 
 
 abbrev pub invariant-loop-n : goal.invariant-loop-n
 invariant-loop-n l =
-    AddsAll l.initial.table (UpTo (SaysExplicit (the_schema l.sources.names.now) l.entity l.row) (map explicit_of l.explicits) l.n) l.table
+    AddsAll l.initial.table (UpTo (SaysExplicit (the_schema l.sources.names.now) l.owner.entity l.owner.row.now) (map explicit_of l.explicits) l.n) l.table

@@ -13,7 +13,7 @@ pub returns : goal.returns
 returns c =
     let s = the_schema c.args.sources.now.names.now in
     let y = attribute_of c.args.inverse.now.attribute in
-    let at = c.item_at.ensures ∙ ap (slice_get c.args.row.now) c.in_ok-place.ensures in
+    let at = c.item_at.ensures ∙ ap (slice_get c.args.owner.now.row.now) c.in_ok-place.ensures in
     on_ok_weaker c.add_one.result (λ h.
-    subst (λ o. AddsAll c.args.table.now (SaysOne s classes.Inverse c.args.entity o None y)
+    subst (λ o. AddsAll c.args.table.now (SaysOne s classes.Inverse c.args.owner.now.entity o None y)
     c.add_one.new.table) at h) c.add_one.ensures

@@ -8,7 +8,7 @@ use Rattle.schema_attributes.proofs.attribute_collection.add_inverses.Goals as g
 
 pub loop-n-init : goal.loop-n-init
 loop-n-init c =
-    none-yet (SaysInverse (the_schema c.args.sources.now.names.now) c.args.entity c.args.row.now c.args.first) (map inverse_of c.args.inverses.now)
+    none-yet (SaysInverse (the_schema c.args.sources.now.names.now) c.args.owner.now.entity c.args.owner.now.row.now c.args.first) (map inverse_of c.args.inverses.now)
     c.args.table.now
 
 pub loop-n-preserved : goal.loop-n-preserved
@@ -16,7 +16,7 @@ loop-n-preserved c =
     let xs = c.args.inverses.now in
     let n = c.loop-n.n in
     let x = c.index-inverses-n.result in
-    one-more (SaysInverse (the_schema c.args.sources.now.names.now) c.args.entity c.args.row.now c.args.first) (map inverse_of xs) n (inverse_of x)
+    one-more (SaysInverse (the_schema c.args.sources.now.names.now) c.args.owner.now.entity c.args.owner.now.row.now c.args.first) (map inverse_of xs) n (inverse_of x)
     c.args.table.now c.loop-n.table c.add_inverse.new.table
     (seen inverse_of xs n x c.loop-n-test.true c.index-inverses-n.is) c.loop-n.invariant c.in_ok-add_inverse.ensures
 
@@ -27,5 +27,5 @@ returns c =
     let before = c.loop-n.auto.n-end in
     let after = c.loop-n-test.false in
     let end : n ≡ length xs = omega (arith, before, after) in
-    at-length (SaysInverse (the_schema c.args.sources.now.names.now) c.args.entity c.args.row.now c.args.first) (map inverse_of xs) n
+    at-length (SaysInverse (the_schema c.args.sources.now.names.now) c.args.owner.now.entity c.args.owner.now.row.now c.args.first) (map inverse_of xs) n
     c.args.table.now c.loop-n.table (end ∙ sym (length-map xs inverse_of)) c.loop-n.invariant

@@ -7,4 +7,4 @@ use Rattle.schema_attributes.proofs.attribute_collection.add_inverses.Given as g
 
 abbrev pub invariant-loop-n : goal.invariant-loop-n
 invariant-loop-n l =
-    AddsAll l.initial.table (UpTo (SaysInverse (the_schema l.sources.names.now) l.entity l.row l.first) (map inverse_of l.inverses) l.n) l.table
+    AddsAll l.initial.table (UpTo (SaysInverse (the_schema l.sources.names.now) l.owner.entity l.owner.row.now l.first) (map inverse_of l.inverses) l.n) l.table

@@ -14,15 +14,15 @@ returns-in-Some c =
     let s = the_schema c.args.sources.now.names.now in
     let y = attribute_of c.args.attribute in
     let said : ℕ → Saying =
-    λ k. Says s c.args.class (record { entity = c.args.entity; data_type = k; derivation = c.args.derivation }) y in
+    λ k. Says s c.args.class (record { entity = c.args.declaration.entity; data_type = k; derivation = c.args.declaration.derivation }) y in
     on_ok_weaker c.add_attribute.result (adds-alike c.args.table.now c.add_attribute.new.table
-    (said c.in-Some.data_type) (SaysOne s c.args.class c.args.entity c.args.data_type c.args.derivation y)
-    (with-number said c.args.data_type c.in-Some.data_type c.in-Some.is)) c.add_attribute.ensures
+    (said c.in-Some.data_type) (SaysOne s c.args.class c.args.declaration.entity c.args.declaration.data_type c.args.declaration.derivation y)
+    (with-number said c.args.declaration.data_type c.in-Some.data_type c.in-Some.is)) c.add_attribute.ensures
 
 pub returns-in-None : goal.returns-in-None
 returns-in-None c =
     let s = the_schema c.args.sources.now.names.now in
     let y = attribute_of c.args.attribute in
-    adds-nothing c.args.table.now (SaysOne s c.args.class c.args.entity c.args.data_type c.args.derivation y)
+    adds-nothing c.args.table.now (SaysOne s c.args.class c.args.declaration.entity c.args.declaration.data_type c.args.declaration.derivation y)
     (without-number (λ k. Says s c.args.class
-    (record { entity = c.args.entity; data_type = k; derivation = c.args.derivation }) y) c.args.data_type c.in-None.is)
+    (record { entity = c.args.declaration.entity; data_type = k; derivation = c.args.declaration.derivation }) y) c.args.declaration.data_type c.in-None.is)

@@ -20,7 +20,7 @@ returns-then-is_checked c =
 pub returns : goal.returns
 returns c =
     let s = schema_in c.args.findings.now.known in
-    let x = statement_of (holder_seen s c.args.holder) c.args.number (rule_of c.args.rule.now) in
+    let x = statement_of (holder_seen s c.args.place.holder) c.args.place.number (rule_of c.args.rule.now) in
     let (r, why) = some-reason (has_reason s c.args.own (body_of c.args.rule.now.body)) c.in_ok-reason.reason
     (sym c.is_checked.ensures ∙ c.if-is_checked.false) c.in_ok-reason.ensures in
     adds-left s x r c.args.rules.now.items c.args.rules.now.items

@@ -18,7 +18,7 @@ returns c =
     let r = c.args.rule.now in
     let x : Candidate = record {
       kind = parts.Where;
-      name = dotted (capitals c.args.holder) (label_of c.args.number (if_some capitals r.label));
+      name = dotted (capitals c.args.place.holder) (label_of c.args.place.number (if_some capitals r.label));
       has_reason = has_reason (schema_in c.args.findings.now.known) c.args.own (body_of r.body);
     } in
     on_ok_weaker c.add_for.result

@@ -12,7 +12,8 @@ pub returns-in-Faulty-clause-shrinks : goal.returns-in-Faulty-clause-shrinks
 returns-in-Faulty-clause-shrinks g c = λ names are bytes within reads.
     faulty (the_schema c.args.graph.types.names) names bytes c.args.exchange.now
     (g.O.Sink.held c.args.out.now) (g.C.Sink.held c.args.certificate.now) c.in-Ok.merging c.in-Faulty.found
-    c.report.result c.in-Faulty.is (c.in-Ok.ensures.merges names are) within reads c.report.ensures.report
+    c.report.result c.in-Faulty.is (c.in-Ok.ensures.merges names are) within reads
+    (c.report.ensures.report names.other_names)
     c.report.ensures.findings c.report.ensures.rules
 
 pub returns-in-Ok-write_both-clause-shrinks : goal.returns-in-Ok-write_both-clause-shrinks
@@ -28,7 +29,7 @@ returns-in-Ok-write_both-clause-shrinks g c = λ names are bytes within reads.
     (written_to g.C.Sink.held c.args.certificate.now c.write_both.new.certificate) (smaller_text x second)
     (certificate_text first second) said.result
     (done s names bytes x c.in-Clean.unknown first second c.conforms_where_nothing_is_found.ensures
-    c.merges_are_least.ensures tabled within said.result (said.ensures.report tabled.found) said.ensures.clean
+    c.merges_are_least.ensures tabled within said.result (said.ensures.report names.other_names tabled.found) said.ensures.clean
     said.ensures.kept said.ensures.rounds) c.in-Ok-write_both.ensures.writes.0 c.in-Ok-write_both.ensures.writes.1
 
 pub returns-clause-shrinks : goal.returns-clause-shrinks
@@ -44,5 +45,5 @@ returns-clause-shrinks g c = λ names are bytes within reads.
     (written_to g.C.Sink.held c.args.certificate.now c.write_both.new.certificate) (smaller_text x second)
     (certificate_text first second) said.result c.in-Err-write_both.fault c.of_file.result c.of_file.ensures
     (done s names bytes x c.in-Clean.unknown first second c.conforms_where_nothing_is_found.ensures
-    c.merges_are_least.ensures tabled within said.result (said.ensures.report tabled.found) said.ensures.clean
+    c.merges_are_least.ensures tabled within said.result (said.ensures.report names.other_names tabled.found) said.ensures.clean
     said.ensures.kept said.ensures.rounds) c.in-Err-write_both.ensures.writes

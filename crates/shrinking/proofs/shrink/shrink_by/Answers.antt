@@ -1,10 +1,14 @@
-use Rattle.std.proofs.Common.{sym, ◌∙◌}
+use Rattle.std.proofs.Common.{◌≡◌, Some, sym, subst, ◌∙◌}
+use Rattle.schema_semantics.specs.Faults.{IsResolved}
+use Rattle.schema_types.specs.Resolution.{IsNameFault}
+use Rattle.conformance.specs.OtherNames.{other_names}
+use Rattle.checking.specs.Checks.{IsResolvedSchemaText}
 use Rattle.express_syntax.specs.SchemaViews.{schema_of}
 use Rattle.merge_choices.specs.ChosenEntities.{choice_of}
 use Rattle.files.specs.declared.fault.Role.TheVariants.{Certificate, File, Output, Schema}
 use Rattle.reports.proofs.Failing.{schema_alone, schema_first}
 use Rattle.shrinking.specs.declared.summary.Summary.{Summary}
-use Rattle.shrinking.proofs.Answering.{schema_unread, unresolved}
+use Rattle.shrinking.proofs.Answering.{no_file_told, schema_unread, unresolved, unshrunk}
 use Rattle.shrinking.proofs.shrink.shrink_by.Goals as goal
 
 pub returns-in-Err-clause-shrinks : goal.returns-in-Err-clause-shrinks
@@ -18,7 +22,22 @@ returns-clause-shrinks g c =
     unresolved (choice_of c.args.choice.now) c.args.choice.now.strict c.args.schema.now (schema_of c.in-Ok.tree)
     (g.F.Source.to_come c.args.file.now) (g.O.Sink.held c.args.out.now) (g.C.Sink.held c.args.certificate.now)
     c.in-Err-resolve.fault c.of_schema-in-Err-resolve.result c.of_schema-in-Err-resolve.ensures c.requires.within
-    c.in-Ok.ensures.found c.in-Err-resolve.ensures.resolved
+    c.in-Ok.ensures.found (subst (λ t. IsNameFault (schema_of t) c.in-Err-resolve.fault) c.with_other_names-named.ensures
+    c.in-Err-resolve.ensures.resolved)
+
+pub returns-in-Ok-resolve-clause-shrinks : goal.returns-in-Ok-resolve-clause-shrinks
+returns-in-Ok-resolve-clause-shrinks g c =
+    let choice = choice_of c.args.choice.now in
+    let text = c.args.schema.now in
+    let named = c.with_other_names-named.ensures in
+    let is : IsResolvedSchemaText (schema_of c.in-Ok.tree) text = record {
+      within = c.requires.within;
+      reads = c.in-Ok.ensures.found;
+      resolved = subst (λ t. IsResolved (schema_of t)) named c.in-Ok-resolve.ensures.resolved;
+    } in
+    c.shrink_graph.ensures.shrinks text
+    (subst (λ t. IsResolvedSchemaText (schema_of t) text × (choice.other_names ≡ other_names t))
+    (sym (c.in-Ok-resolve.ensures.same ∙ named)) (is, sym c.in-Ok-copy_other_names.ensures))
 
 pub returns-clause-file_told : goal.returns-clause-file_told
 returns-clause-file_told g c =
@@ -66,3 +85,11 @@ pub returns-clause-certificate_fault : goal.returns-clause-certificate_fault
 returns-clause-certificate_fault g c = λ fine.
     fine ∙ sym (schema_alone Summary Certificate c.in-Err-resolve.fault c.of_schema-in-Err-resolve.result
     c.of_schema-in-Err-resolve.ensures)
+
+pub returns-in-Err-copy_other_names-clause-shrinks : goal.returns-in-Err-copy_other_names-clause-shrinks
+returns-in-Err-copy_other_names-clause-shrinks g c =
+    unshrunk (choice_of c.args.choice.now) c.args.choice.now.strict (Some c.args.schema.now)
+    (g.F.Source.to_come c.args.file.now) (g.O.Sink.held c.args.out.now) (g.C.Sink.held c.args.certificate.now)
+
+pub returns-in-Err-copy_other_names-clause-file_told : goal.returns-in-Err-copy_other_names-clause-file_told
+returns-in-Err-copy_other_names-clause-file_told g c = no_file_told (g.F.Source.fails c.args.file.now)

@@ -2,7 +2,7 @@ use Rattle.std.proofs.Common.{refl, subst}
 use Rattle.schema_semantics.specs.Parts.{AreUnchecked}
 use Rattle.schema_names.specs.Schemas.{the_schema}
 use Rattle.schema_unchecked_declarations.specs.UncheckedLists.{unchecked_in}
-use Rattle.conformance.specs.Choices.{mergeable}
+use Rattle.conformance.specs.Choices.{merge_options}
 use Rattle.merge_choices.specs.ChosenEntities.{choice_of}
 use Rattle.reports.specs.declared.fault.Fault.TheVariants.{Unchecked}
 use Rattle.shrinking.specs.Shrinking.{written_to}
@@ -18,7 +18,7 @@ returns-then-is_refused-clause-shrinks g c = λ text has.
     (λ bytes. (
       (
         s,
-        has,
+        has.0,
         refused.0,
         c.into_unchecked.ensures,
         λ none. refused.1 (subst (λ us. ∥ AreUnchecked s (unchecked_in us) ∥₁) none c.into_unchecked.ensures),
@@ -32,12 +32,12 @@ returns-in-Ok-clause-shrinks g c = λ text has.
     let choice = choice_of c.args.choice.now in
     settled choice c.args.choice.now.strict text s (g.F.Source.to_come c.args.file.now)
     (written_to g.O.Sink.held c.args.out.now c.shrink_source.new.out)
-    (written_to g.C.Sink.held c.args.certificate.now c.shrink_source.new.certificate) c.shrink_source.result has c.if-is_refused.ensures
-    c.in-Ok.ensures.0 (c.shrink_source.ensures.shrinks (mergeable s choice) c.in-Ok.ensures.1.0)
+    (written_to g.C.Sink.held c.args.certificate.now c.shrink_source.new.certificate) c.shrink_source.result has.0 c.if-is_refused.ensures
+    c.in-Ok.ensures.0 (c.shrink_source.ensures.shrinks (merge_options s choice) (c.in-Ok.ensures.1.0, has.1))
 
 pub returns-clause-shrinks : goal.returns-clause-shrinks
 returns-clause-shrinks g c = λ text has.
     unknown (choice_of c.args.choice.now) c.args.choice.now.strict text
     (the_schema c.args.graph.types.names) (g.F.Source.to_come c.args.file.now)
     (g.O.Sink.held c.args.out.now) (g.C.Sink.held c.args.certificate.now) c.in-Err.fault c.of_schema.result
-    c.of_schema.ensures has c.if-is_refused.ensures c.in-Err.ensures
+    c.of_schema.ensures has.0 c.if-is_refused.ensures c.in-Err.ensures

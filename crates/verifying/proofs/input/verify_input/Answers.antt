@@ -13,7 +13,7 @@ returns-in-Err c schema choice settles are =
     let input = c.args.input.now in
     subst (λ e. Verifies schema input output certificate choice (Err e))
     (sym (c.of_file.ensures ∙ (λ i. of_file (c.of_text.ensures i))))
-    (unread_input schema input output certificate choice (the_schema c.args.graph.now.types.names) settles
+    (unread_input schema input output certificate choice (the_schema c.args.graph.now.types.names) settles.0
     c.in-Err.fault c.in-Err.ensures.fault)
 
 pub returns-in_err-tables : goal.returns-in_err-tables

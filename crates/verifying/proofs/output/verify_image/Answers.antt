@@ -1,8 +1,10 @@
-use Rattle.std.proofs.Common.{Ok, Err, subst}
+use Rattle.std.proofs.Common.{◌≡◌, Ok, Err, sym, subst}
 use Rattle.std.proofs.lemmas.Result.{err_from_is_err_and}
 use Rattle.step_exchange.specs.Exchanges.{structure}
 use Rattle.schema_names.specs.Schemas.{the_schema}
 use Rattle.typed_populations.specs.PopulationViews.{population_seen}
+use Rattle.conformance.specs.Findings.{findings}
+use Rattle.typed_populations.specs.TypedPopulations.{IsTyped}
 use Rattle.population_reader.specs.Verdicts.{IsVerdict}
 use Rattle.verifying.specs.steps.ComputedPassing.{AnswersTyped}
 use Rattle.verifying.proofs.Answering.{refused, proved}
@@ -28,8 +30,8 @@ returns-in_err-proof-in-Typed c schema input output certificate header_bytes cho
     (subst (λ t. AnswersTyped (the_schema t.names) hs j (structure q.exchange.now) (population_seen q) (Err e))
     same c.in_err-proof-in-Typed.ensures) in
     let p = err_from_is_err_and c.from_residual-in_err-proof-in-Typed.result c.from_residual-in_err-proof-in-Typed.ensures.1 in
-    rw (p.1, p.2) (refused schema input output certificate choice s settles f reads j judged header_bytes g out
-    (population_seen q) typed hs has e h)
+    rw (p.1, p.2) (refused schema input output certificate choice s settles.0 f reads j judged header_bytes g out
+    (population_seen q) (subst (λ l. IsTyped s l g (population_seen q)) (sym settles.1) typed) hs has e h)
 
 pub returns-in_ok-proof-in-Typed : goal.returns-in_ok-proof-in-Typed
 returns-in_ok-proof-in-Typed c schema input output certificate header_bytes choice f has settles reads judged out =
@@ -45,8 +47,8 @@ returns-in_ok-proof-in-Typed c schema input output certificate header_bytes choi
     subst (λ x. AnswersTyped s hs j (structure x) (population_seen q) (Ok p)) image
     (subst (λ t. AnswersTyped (the_schema t.names) hs j (structure q.exchange.now) (population_seen q) (Ok p))
     same c.in_ok-proof-in-Typed.ensures) in
-    proved schema input output certificate choice s settles f reads j judged header_bytes g out (population_seen q)
-    typed hs has c.checks_prove.ensures p h
+    proved schema input output certificate choice s settles.0 f reads j judged header_bytes g out (population_seen q)
+    (subst (λ l. IsTyped s l g (population_seen q)) (sym settles.1) typed) hs has c.checks_prove.ensures p h
 
 pub returns-in-Faulty : goal.returns-in-Faulty
 returns-in-Faulty c schema input output certificate header_bytes choice f has settles reads judged out =
@@ -54,7 +56,7 @@ returns-in-Faulty c schema input output certificate header_bytes choice f has se
     let g = structure c.args.image.now in
     let (functions, all, some) = subst (IsVerdict types c.args.image.now) c.in-Faulty.is c.in_ok-verdict.ensures in (
       the_schema types.names,
-      settles,
+      settles.0,
       (
         f,
         reads,
@@ -62,7 +64,8 @@ returns-in-Faulty c schema input output certificate header_bytes choice f has se
           header_bytes,
           g,
           out,
-          (λ said. all said.domain said.entities said.is_domain said.are_entities),
+          (λ said. subst (λ l. c.in-Faulty.findings.items ≡ findings (the_schema types.names) said.domain said.entities l g)
+              (sym settles.1) (all said.domain said.entities said.is_domain said.are_entities)),
           some,
           c.new.ensures.items,
         ),

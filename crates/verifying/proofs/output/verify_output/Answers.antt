@@ -15,5 +15,5 @@ returns-in-Err c schema input certificate choice f has settles reads judged =
     let output = c.args.output.now in
     subst (λ e. Verifies schema input output certificate choice (Err e))
     (sym (c.of_file.ensures ∙ (λ i. of_file (c.of_text.ensures i))))
-    (unread_output schema input output certificate choice (the_schema c.args.types.now.names) settles
+    (unread_output schema input output certificate choice (the_schema c.args.types.now.names) settles.0
     f reads c.in-Err.fault c.in-Err.ensures.fault)
